@@ -1,0 +1,114 @@
+ghost use Rattle.std.specs.Prelude.{◌≡◌, ℕ, ◌≤◌, ◌<◌, ◌↔◌, length, None, IsTrue, IfOk, MatchResult, unwrap_or, option_map};
+ghost use Rattle.za_alpha.specs.Words.{independent, projection, IsWord, AreEquivalent};
+ghost use Rattle.za_alpha.specs.Rows.{alphabet_fault, alphabet_of_rows};
+ghost use Rattle.za_alpha.specs.Alphabet.{loc_of, name_at, place_of, procs_at, IsDistributed};
+
+use crate::fault::{AlphaFault, OutOfMemory};
+use crate::procs::Procs;
+use crate::rows::{entries_of, fault_of, name_in, place_in};
+use crate::word::{Letter, Word};
+use std::alloc::Global;
+use std::marker::Model;
+
+/// What is said of a letter: its name, and its processes in any order.
+#[derive(Debug, Drop)]
+pub struct LetterRow {
+    pub name: Vec<u8>,
+    pub procs: Vec<u32>,
+}
+
+/// A letter's name, and its processes.
+#[derive(Debug, Drop)]
+pub(crate) struct Entry {
+    pub(crate) name: Vec<u8>,
+    pub(crate) loc: Procs,
+}
+
+/// A distributed alphabet: 1 to 6 processes, and 1 to 32 letters that each belong to some of them
+/// (Zielonka 1987).
+#[derive(Debug, Drop)]
+pub struct Alphabet {
+    processes: usize,
+    entries: Vec<Entry>,
+}
+
+impl Model for Alphabet {
+    ghost use Rattle.za_alpha.specs.Alphabet.{DistributedAlphabet, alphabet_of, IsDistributedInside};
+
+    ghost Value = { DistributedAlphabet };
+
+    ghost view = { alphabet_of };
+
+    ghost invariant = { IsDistributedInside };
+}
+
+impl Alphabet {
+    /// The alphabet of `n` processes whose letter `i` is row `i`. A process that a row names twice
+    /// counts once. The first wrong row is named, and the first of its tests that fails.
+    pub fn new(alloc: Global, n: usize, rows: Vec<LetterRow>) -> Result<Alphabet, AlphaFault>
+        ensures { MatchResult result
+            (λ a. (alphabet_fault n rows.items ≡ None) × (a ≡ alphabet_of_rows n rows.items))
+            (λ e. e ≡ unwrap_or (alphabet_fault n rows.items) AlphaFault.OutOfMemory) }
+    {
+        if let Some(fault) = fault_of(n, rows.as_slice()) {
+            return Err(fault);
+        }
+        let entries = entries_of(alloc, rows)?;
+        Ok(Alphabet {
+            processes: n,
+            entries,
+        })
+    }
+
+    /// How many processes there are, 1 to 6.
+    pub fn processes(&self) -> usize
+        ensures value { result ≡ self.now.processes }
+        ensures whole { IsDistributed self.now }
+    {
+        self.processes
+    }
+
+    /// How many letters there are, 1 to 32.
+    pub fn letters(&self) -> usize
+        ensures value { result ≡ length self.now.letters }
+        ensures whole { IsDistributed self.now }
+    {
+        self.entries.len()
+    }
+
+    /// A letter's name.
+    pub fn name(&self, a: Letter) -> &[u8]
+        requires { a.0 < length self.now.letters }
+        ensures { result.now ≡ name_at self.now.letters a.0 }
+    {
+        name_in(self.entries.as_slice(), a)
+    }
+
+    /// The letter of a name, and `None` exactly where no letter has it. It compares the names in
+    /// order.
+    pub fn find(&self, name: &[u8]) -> Option<Letter>
+        ensures { option_map (λ (a : Letter). a.0) result ≡ place_of self.now.letters name.now }
+    {
+        match place_in(self.entries.as_slice(), name) {
+            Some(place) => Some(Letter(place as u8)),
+            None => None,
+        }
+    }
+
+    /// The processes of a letter.
+    pub fn loc(&self, a: Letter) -> Procs
+        requires { a.0 < length self.now.letters }
+        ensures { result ≡ procs_at self.now.letters a.0 }
+    {
+        self.entries[a.0 as usize].loc
+    }
+
+    /// Whether no process belongs to both letters.
+    pub fn independent(&self, a: Letter, b: Letter) -> bool
+        requires first { a.0 < length self.now.letters }
+        requires second { b.0 < length self.now.letters }
+        ensures { result ≡ independent (loc_of self.now) a.0 b.0 }
+    {
+        !self.loc(a).meets(self.loc(b))
+    }
+}
