@@ -1,1 +1,4 @@
 pub mod Swaps
+pub mod Members
+pub mod RowLemmas
+pub mod Distributed

@@ -7,7 +7,7 @@ use Rattle.za_alpha.specs.declared.procs.Procs.{Procs}
 use Rattle.za_alpha.specs.declared.alphabet.Entry.{Entry}
 use Rattle.za_alpha.specs.declared.alphabet.Alphabet.TheInside.{Inside}
 use Rattle.za_alpha.specs.declared.rows.TheConstants.{MOST_PROCESSES, MOST_LETTERS}
-use Rattle.za_alpha.specs.Procs.{members}
+use Rattle.za_alpha.specs.Procs.{members, no_process}
 use Rattle.za_alpha.specs.Words.{IsAlphabet}
 use Rattle.za_alpha.specs.Names.{is_name}
 
@@ -23,7 +23,7 @@ pub record DistributedAlphabet : Type 0 where
 
 -- the set of processes at a place: empty where there is no such letter
 abbrev pub procs_at : List NamedLetter → ℕ → Procs
-procs_at [] a = record { 0 = 0 }
+procs_at [] a = no_process
 procs_at (l ∷ ls) zero = l.loc
 procs_at (l ∷ ls) (suc a) = procs_at ls a
 

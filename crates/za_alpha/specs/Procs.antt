@@ -1,5 +1,5 @@
 -- Sets of processes below 16, kept as the bits of a number.
-use Rattle.std.specs.Prelude.{◌≡◌, ℕ, ◌<◌, ◌==◌, Bool, false, IsTrue, List, filter}
+use Rattle.std.specs.Prelude.{◌≡◌, ℕ, ◌<◌, ◌==◌, ◌^◌, Bool, false, IsTrue, List, filter, bit_or}
 use Rattle.std.specs.List.{range_with_len}
 use Rattle.std.specs.Int.{bit_at}
 use Rattle.za_alpha.specs.declared.procs.Procs.{Procs}
@@ -8,6 +8,14 @@ use Rattle.za_alpha.specs.Words.{has}
 -- the processes of the set, in rising order
 unfoldable pub members : Procs → List ℕ
 members s = filter (λ p. bit_at s.0 p == 1) (range_with_len 0 16)
+
+-- the empty set
+abbrev pub no_process : Procs
+no_process = record { 0 = 0 }
+
+-- the set with one process more
+abbrev pub with_process : Procs → ℕ → Procs
+with_process s p = record { 0 = bit_or s.0 (2 ^ p) }
 
 -- the process is in the list, and none below it is
 pub record IsLeastOf (ps : List ℕ) (p : ℕ) : Type 0 where

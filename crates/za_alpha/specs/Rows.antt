@@ -1,5 +1,5 @@
 -- The rows that an alphabet is made of, and the first that is wrong.
-use Rattle.std.specs.Prelude.{ℕ, ◌==◌, ◌&&◌, ◌++◌, ◌<◌, All, Bool, not, nat_le, bit_or, ◌^◌, List, [], ◌∷◌, length, map, fold, Option, Some, None, if◌then◌else◌}
+use Rattle.std.specs.Prelude.{ℕ, ◌==◌, ◌&&◌, ◌++◌, ◌<◌, All, Bool, not, nat_le, List, [], ◌∷◌, length, map, fold, Option, Some, None, if◌then◌else◌}
 use Rattle.std.specs.List.{list_any}
 use Rattle.std.specs.Str.{bytes_eq}
 use Rattle.std.specs.Option.{option_or}
@@ -8,16 +8,13 @@ use Rattle.za_alpha.specs.declared.alphabet.LetterRow.{LetterRow}
 use Rattle.za_alpha.specs.declared.fault.AlphaFault.{AlphaFault}
 use Rattle.za_alpha.specs.declared.fault.AlphaFault.TheVariants.{ProcessCount, LetterCount, BadName, RepeatedName, EmptyLoc, NoSuchProcess}
 use Rattle.za_alpha.specs.declared.rows.TheConstants.{MOST_PROCESSES, MOST_LETTERS}
+use Rattle.za_alpha.specs.Procs.{no_process, with_process}
 use Rattle.za_alpha.specs.Names.{is_name}
 use Rattle.za_alpha.specs.Alphabet.{DistributedAlphabet, NamedLetter}
 
--- the set with one process more
-abbrev pub with_process : Procs → ℕ → Procs
-with_process s p = record { 0 = bit_or s.0 (2 ^ p) }
-
 -- the set of these processes
 abbrev pub set_of : List ℕ → Procs
-set_of ps = fold with_process (record { 0 = 0 }) ps
+set_of ps = fold with_process no_process ps
 
 -- the letter that a row says
 abbrev pub letter_of_row : LetterRow → NamedLetter

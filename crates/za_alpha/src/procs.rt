@@ -1,6 +1,6 @@
 ghost use Rattle.std.specs.Prelude.{◌≡◌, ℕ, ◌<◌, ◌==◌, ◌||◌, ◌↔◌, [], length, IsTrue, MatchOption};
 ghost use Rattle.za_alpha.specs.Words.{has, meets};
-ghost use Rattle.za_alpha.specs.Procs.{members, IsLeastOf};
+ghost use Rattle.za_alpha.specs.Procs.{members, no_process, with_process, IsLeastOf};
 
 /// A set of processes below 16: bit `p` of the number says whether process `p` is in it.
 #[derive(Clone, Copy, Debug, PartialEq, Eq)]
@@ -12,7 +12,8 @@ const WIDTH: usize = 16;
 impl Procs {
     /// The empty set.
     pub fn none() -> Procs
-        ensures { members result ≡ [] }
+        ensures value { result ≡ no_process }
+        ensures empty { members result ≡ [] }
     {
         Procs(0)
     }
@@ -27,7 +28,8 @@ impl Procs {
     /// The set and process `p`.
     pub fn with(self, p: usize) -> Procs
         requires { p < 16 }
-        ensures { (q : ℕ) → has (members result) q ≡ (q == p || has (members self) q) }
+        ensures value { result ≡ with_process self p }
+        ensures joined { (q : ℕ) → has (members result) q ≡ (q == p || has (members self) q) }
     {
         Procs(self.0 | (1 << p))
     }

@@ -1,0 +1,202 @@
+-- The processes of a set and the bits of its number.
+use Rattle.std.proofs.Common.{◌≡◌, ◌≢◌, ℕ, suc, zero, ◌+◌, ◌*◌, ◌%◌, ◌^◌, ◌<◌, ◌≤◌, Bool, true, false, ◌||◌, ◌&&◌, List, [], ◌∷◌, ◌++◌, length, filter, IsTrue, ◌==◌, length-append, refl, sym, ap, subst, ◌∙◌, arith, eqb, eq-eqb, eqb-true, cond, max, min, inl, inr, ◌↔◌}
+use Rattle.std.specs.Prelude.{bit_or, bit_and, nat_lt, nat_le}
+use Rattle.std.specs.List.{range_with_len}
+use Rattle.std.specs.Int.{bit_at, w16, trailing_zeros}
+use Rattle.std.proofs.lemmas.Nat.Bits.{bit_at_or, bit_at_and, bit_at-lt, bit_at-zero, bit_at_set_same, bit_at_set_other, same_from_bits, bit_at_above, bit_at-trailing_zeros}
+use Rattle.std.proofs.lemmas.Bool.{cases_Bool, cond-true, cond-false, or_left, or_right, or_cases, and_parts}
+use Rattle.std.proofs.lemmas.Bool.Decides.{eqb_tells, nat_tests}
+use Rattle.std.proofs.lemmas.List.Elements.{filter-append}
+use Rattle.std.proofs.lemmas.Map.Views.{any-filter_same}
+use Rattle.za_alpha.specs.declared.procs.Procs.{Procs}
+use Rattle.za_alpha.specs.Words.{has, meets}
+use Rattle.za_alpha.specs.Procs.{members}
+use Rattle.za_alpha.proofs.Swaps.{meets-elim, meets-intro}
+
+-- which numbers are in a range
+pub has-range : (a n p : ℕ) → has (range_with_len a n) p ≡ (nat_le a p && nat_lt p (a + n))
+has-range a zero p = grind (arith, nat_tests)
+has-range a (suc n) p = let ih = has-range (a + 1) n p in grind (arith, nat_tests, ih)
+
+pub has-range-below : (n p : ℕ) → has (range_with_len 0 n) p ≡ nat_lt p n
+has-range-below n p = let e = has-range 0 n p in grind (arith, nat_tests, e)
+
+-- which elements of a list pass a test
+pub has-filter : (test : ℕ → Bool) (ps : List ℕ) (p : ℕ) → has (filter test ps) p ≡ (test p && has ps p)
+has-filter test ps p = any-filter_same (λ q. q == p) test (test p) (λ q h. ap test (eqb-true q p h)) ps
+
+members-is : (s : Procs) → members s ≡ filter (λ q. eqb (bit_at s.0 q) 1) (range_with_len 0 16)
+unfolding members
+members-is s = refl
+
+-- a process is in the set exactly if its bit is set
+pub has-members : (s : Procs) (p : ℕ) → has (members s) p ≡ (eqb (bit_at s.0 p) 1 && nat_lt p 16)
+has-members s p =
+    ap (λ ps. has ps p) (members-is s) ∙ has-filter (λ q. eqb (bit_at s.0 q) 1) (range_with_len 0 16) p
+    ∙ ap (λ b. eqb (bit_at s.0 p) 1 && b) (has-range-below 16 p)
+
+-- a list in which nothing is found is empty
+pub nothing-empty : (ps : List ℕ) → ((p : ℕ) → has ps p ≡ false) → ps ≡ []
+nothing-empty [] h = refl
+nothing-empty (p ∷ ps) h = let f = h p in let t : has (p ∷ ps) p ≡ true = or_left (eqb p p) (has ps p) (eq-eqb p p refl) in cc
+
+one_of_max : (x y : ℕ) → x < 2 → y < 2 → eqb (max x y) 1 ≡ (eqb x 1 || eqb y 1)
+one_of_max zero zero p q = refl
+one_of_max zero (suc zero) p q = refl
+one_of_max (suc zero) zero p q = refl
+one_of_max (suc zero) (suc zero) p q = refl
+one_of_max zero (suc (suc y)) p q = absurd (omega arith)
+one_of_max (suc zero) (suc (suc y)) p q = absurd (omega arith)
+one_of_max (suc (suc x)) y p q = absurd (omega arith)
+
+-- a bit of an or
+bit-or : (a b p : ℕ) → eqb (bit_at (bit_or a b) p) 1 ≡ (eqb (bit_at a p) 1 || eqb (bit_at b p) 1)
+bit-or a b p = rw (bit_at_or a b p) (one_of_max _ _ (bit_at-lt a p) (bit_at-lt b p))
+
+pub and-true : (b : Bool) → (b && true) ≡ b
+and-true true = refl
+and-true false = refl
+
+pub and-false : (b : Bool) → (b && false) ≡ false
+and-false true = refl
+and-false false = refl
+
+and-or : (a b c : Bool) → ((a || b) && c) ≡ ((a && c) || (b && c))
+and-or true true true = refl
+and-or true true false = refl
+and-or true false true = refl
+and-or true false false = refl
+and-or false true true = refl
+and-or false true false = refl
+and-or false false c = refl
+
+-- a process is in a union exactly if it is in one of the sets
+pub has-union : (a b p : ℕ) → has (members (record { 0 = bit_or a b })) p ≡ (has (members (record { 0 = a })) p || has (members (record { 0 = b })) p)
+has-union a b p =
+    has-members (record { 0 = bit_or a b }) p ∙ ap (λ x. x && nat_lt p 16) (bit-or a b p) ∙ and-or (eqb (bit_at a p) 1) (eqb (bit_at b p) 1) (nat_lt p 16)
+    ∙ sym (ap (λ x. x || has (members (record { 0 = b })) p) (has-members (record { 0 = a }) p)
+    ∙ ap (λ x. (eqb (bit_at a p) 1 && nat_lt p 16) || x) (has-members (record { 0 = b }) p))
+
+-- a bit after one was set
+bit-set : (a k p : ℕ) → k < 16 → eqb (bit_at (bit_or a (1 * 2 ^ k % 65536)) p) 1 ≡ (eqb p k || eqb (bit_at a p) 1)
+bit-set a k p h =
+    elim (eqb_tells p k) [
+      | inl s ↦ rw (s.0, s.1, bit_at_set_same w16 a k h) refl
+      | inr s ↦ rw (s.0, bit_at_set_other w16 a k h p s.1) refl
+    ]
+
+-- a process is in the set after one joined exactly if it is that one or was in it
+pub has-with : (a k p : ℕ) → k < 16 → has (members (record { 0 = bit_or a (1 * 2 ^ k % 65536) })) p ≡ (eqb p k || has (members (record { 0 = a })) p)
+has-with a k p h =
+    let now = has-members (record { 0 = bit_or a (1 * 2 ^ k % 65536) }) p in
+    let was = has-members (record { 0 = a }) p in
+    let set = bit-set a k p h in
+    elim (eqb_tells p k) [
+      | inl s ↦ let small : nat_lt p 16 ≡ true = grind (arith, nat_tests) in now ∙ grind (arith, set, small, s.0)
+      | inr s ↦ now ∙ grind (arith, set, was, s.0)
+    ]
+
+-- no bit is set in 0 alone
+no_bit : (a : ℕ) → ((p : ℕ) → eqb (bit_at a p) 1 ≡ false) → a ≡ 0
+no_bit a h = same_from_bits a 0 (λ p. let small : bit_at a p < 2 = bit_at-lt a p in let off : eqb (bit_at a p) 1 ≡ false = h p in grind (arith, bit_at-zero p))
+
+-- the set of the number 0 is empty, and no other is
+pub members-zero : members (record { 0 = 0 }) ≡ []
+members-zero = nothing-empty (members (record { 0 = 0 })) (λ p. has-members (record { 0 = 0 }) p ∙ ap (λ n. eqb n 1 && nat_lt p 16) (bit_at-zero p))
+
+pub zero-members : (a : ℕ) → a < 2 ^ 16 → members (record { 0 = a }) ≡ [] → a ≡ 0
+zero-members a small e =
+    no_bit a (λ p.
+    let none : false ≡ (eqb (bit_at a p) 1 && nat_lt p 16) = sym (ap (λ ps. has ps p) e) ∙ has-members (record { 0 = a }) p in
+    elim (cases_Bool (nat_lt p 16)) [
+      | inl t ↦ grind (arith, none, t)
+      | inr f ↦ let far : 16 ≤ p = grind (arith, nat_tests) in rw (bit_at_above a 16 p small far) refl
+    ])
+
+-- the processes of a set are those of another exactly if the numbers agree
+pub members-same : (a b : ℕ) → a < 2 ^ 16 → b < 2 ^ 16 → ((p : ℕ) → has (members (record { 0 = a })) p ≡ has (members (record { 0 = b })) p) → a ≡ b
+members-same a b la lb h =
+    same_from_bits a b (λ p.
+    let sa : bit_at a p < 2 = bit_at-lt a p in
+    let sb : bit_at b p < 2 = bit_at-lt b p in
+    elim (cases_Bool (nat_lt p 16)) [
+      | inl t ↦
+          let e : eqb (bit_at a p) 1 ≡ eqb (bit_at b p) 1 = grind (arith, has-members (record { 0 = a }) p, has-members (record { 0 = b }) p, h p, t) in
+          grind (arith, nat_tests, e)
+      | inr f ↦
+          let far : 16 ≤ p = grind (arith, nat_tests) in
+          bit_at_above a 16 p la far ∙ sym (bit_at_above b 16 p lb far)
+    ])
+
+-- sets share a process exactly if the numbers share a bit
+pub meets-and : (a b : ℕ) → a < 2 ^ 16 → b < 2 ^ 16 → meets (members (record { 0 = a })) (members (record { 0 = b })) ≡ true → bit_and a b ≢ 0
+meets-and a b la lb m z =
+    let r = meets-elim (members (record { 0 = a })) (members (record { 0 = b })) m in
+    let ha : eqb (bit_at a r.0) 1 ≡ true = (and_parts (eqb (bit_at a r.0) 1) (nat_lt r.0 16) (sym (has-members (record { 0 = a }) r.0) ∙ r.1)).0 in
+    let hb : eqb (bit_at b r.0) 1 ≡ true = (and_parts (eqb (bit_at b r.0) 1) (nat_lt r.0 16) (sym (has-members (record { 0 = b }) r.0) ∙ r.2)).0 in
+    let ea : bit_at a r.0 ≡ 1 = eqb-true _ _ ha in
+    let eb : bit_at b r.0 ≡ 1 = eqb-true _ _ hb in
+    let both : bit_at (bit_and a b) r.0 ≡ min (bit_at a r.0) (bit_at b r.0) = bit_at_and a b r.0 in
+    let none : bit_at (bit_and a b) r.0 ≡ 0 = rw (z, bit_at-zero r.0) refl in
+    omega arith
+
+pub and-meets : (a b : ℕ) → bit_and a b ≢ 0 → bit_and a b < 2 ^ 16 → meets (members (record { 0 = a })) (members (record { 0 = b })) ≡ true
+and-meets a b h small =
+    let n : ℕ = bit_and a b in
+    let at : ℕ = trailing_zeros w16 n in
+    let found = bit_at-trailing_zeros w16 n (omega arith) small in
+    let set : bit_at n at ≡ 1 = found.1 in
+    let within : at < 16 = found.0 in
+    let both : min (bit_at a at) (bit_at b at) ≡ 1 = sym (bit_at_and a b at) ∙ set in
+    let la : bit_at a at < 2 = bit_at-lt a at in
+    let lb : bit_at b at < 2 = bit_at-lt b at in
+    let low : nat_lt at 16 ≡ true = grind (arith, nat_tests) in
+    let ha : eqb (bit_at a at) 1 ≡ true = eq-eqb _ _ (omega arith) in
+    let hb : eqb (bit_at b at) 1 ≡ true = eq-eqb _ _ (omega arith) in
+    meets-intro (members (record { 0 = a })) (members (record { 0 = b })) at
+    (has-members (record { 0 = a }) at ∙ rw (ha, low) refl) (has-members (record { 0 = b }) at ∙ rw (hb, low) refl)
+
+-- the members below p + 1, from those below p
+pub range-more : (a n : ℕ) → range_with_len a (n + 1) ≡ range_with_len a n ++ (a + n) ∷ []
+range-more a zero = grind (arith)
+range-more a (suc n) = let ih = range-more (a + 1) n in grind (arith, ih)
+
+one_or_none : (b : Bool) (a : ℕ) → length (cond b (a ∷ []) []) ≡ cond b 1 0
+one_or_none true a = refl
+one_or_none false a = refl
+
+pub filter-range-more : (test : ℕ → Bool) (n : ℕ) → length (filter test (range_with_len 0 (n + 1))) ≡ length (filter test (range_with_len 0 n)) + cond (test n) 1 0
+filter-range-more test n =
+    let z : 0 + n ≡ n = omega arith in
+    ap (λ ps. length (filter test ps)) (range-more 0 n)
+    ∙ ap length (filter-append test (range_with_len 0 n) ((0 + n) ∷ []))
+    ∙ length-append (filter test (range_with_len 0 n)) (filter test ((0 + n) ∷ []))
+    ∙ ap (λ k. length (filter test (range_with_len 0 n)) + k) (one_or_none (test (0 + n)) (0 + n) ∙ ap (λ k. cond (test k) 1 0) z)
+
+-- how many of the processes below n are in a set
+pub count_below : Procs → ℕ → ℕ
+count_below s n = length (filter (λ q. eqb (bit_at s.0 q) 1) (range_with_len 0 n))
+
+pub count_below-zero : (s : Procs) → count_below s 0 ≡ 0
+unfolding count_below
+count_below-zero s = refl
+
+pub count_below-all : (s : Procs) → count_below s 16 ≡ length (members s)
+unfolding count_below
+count_below-all s = sym (ap length (members-is s))
+
+pub count_below-more : (s : Procs) (n : ℕ) → n < 16 → count_below s (n + 1) ≡ count_below s n + cond (has (members s) n) 1 0
+unfolding count_below
+count_below-more s n h =
+    let low : nat_lt n 16 ≡ true = grind (arith, nat_tests) in
+    let same : has (members s) n ≡ eqb (bit_at s.0 n) 1 = has-members s n ∙ rw low (and-true (eqb (bit_at s.0 n) 1)) in
+    filter-range-more (λ q. eqb (bit_at s.0 q) 1) n ∙ ap (λ b. length (filter (λ q. eqb (bit_at s.0 q) 1) (range_with_len 0 n)) + cond b 1 0) (sym same)
+
+-- a set of which no process below 16 is a member is empty
+pub members-empty : (s : Procs) → ((p : ℕ) → p < 16 → has (members s) p ≡ false) → members s ≡ []
+members-empty s h =
+    nothing-empty (members s) (λ p.
+    elim (cases_Bool (nat_lt p 16)) [
+      | inl t ↦ h p (grind (arith, nat_tests))
+      | inr f ↦ has-members s p ∙ rw f (and-false (eqb (bit_at s.0 p) 1))
+    ])
