@@ -1,21 +1,21 @@
 -- Rows without a fault make a distributed alphabet.
-use Rattle.std.proofs.Common.{◌≡◌, ◌≢◌, ℕ, zero, suc, ◌+◌, ◌^◌, ◌<◌, ◌≤◌, Bool, true, false, ◌||◌, ◌&&◌, ◌==◌, eqb, eqb-true, eq-eqb, List, [], ◌∷◌, ◌++◌, length, map, None, refl, sym, ap, subst, ◌∙◌, arith, IsTrue, inl, inr, ◌⊎◌}
+use Rattle.std.proofs.Common.{◌≡◌, ◌≢◌, ℕ, zero, suc, ◌<◌, ◌≤◌, Bool, true, false, ◌||◌, ◌==◌, eqb, eqb-true, eq-eqb, List, [], ◌∷◌, ◌++◌, length, map, None, refl, sym, ap, ◌∙◌, arith, inl, inr, ◌⊎◌}
 use Rattle.std.specs.Prelude.{nat_le, nat_lt, fold, bit_or}
 use Rattle.std.specs.List.{list_any}
 use Rattle.std.specs.Str.{bytes_eq}
-use Rattle.std.proofs.lemmas.Bool.{cases_Bool, or_left, or_right, or_cases, leb-false, eqb-false}
-use Rattle.std.proofs.lemmas.Bool.Decides.{nat_tests, eqb_tells}
+use Rattle.std.proofs.lemmas.Bool.{cases_Bool, or_left, or_right, or_cases, leb-false}
+use Rattle.std.proofs.lemmas.Bool.Decides.{nat_tests}
 use Rattle.std.proofs.lemmas.List.{length-map}
 use Rattle.std.proofs.lemmas.List.Folds.{list_any-append}
 use Rattle.std.proofs.lemmas.Nat.{one_shl}
 use Rattle.std.proofs.lemmas.Slice.Eq.{bytes_eq-Decides}
 use Rattle.za_alpha.specs.declared.procs.Procs.{Procs}
 use Rattle.za_alpha.specs.declared.alphabet.LetterRow.{LetterRow}
-use Rattle.za_alpha.specs.Words.{has, IsAlphabet}
+use Rattle.za_alpha.specs.Words.{has}
 use Rattle.za_alpha.specs.Names.{is_name}
 use Rattle.za_alpha.specs.Procs.{members, no_process, with_process}
 use Rattle.za_alpha.specs.Rows.{row_fault, rows_fault, alphabet_fault, set_of, letter_of_row, alphabet_of_rows}
-use Rattle.za_alpha.specs.Alphabet.{DistributedAlphabet, NamedLetter, IsDistributed, procs_at, name_at, loc_of}
+use Rattle.za_alpha.specs.Alphabet.{IsDistributed, procs_at, name_at}
 use Rattle.za_alpha.proofs.Members.{has-with, members-zero}
 use Rattle.za_alpha.proofs.RowLemmas.{none_of_or, IsRightRow, right_row, right_alphabet}
 

@@ -2,3 +2,4 @@ pub mod Swaps
 pub mod Members
 pub mod RowLemmas
 pub mod Distributed
+pub mod Projections

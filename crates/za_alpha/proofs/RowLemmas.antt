@@ -1,6 +1,6 @@
 -- What follows where rows have no fault, and of a letter's place.
-use Rattle.std.proofs.Common.{◌≡◌, ◌≢◌, ℕ, zero, suc, ◌+◌, ◌<◌, ◌≤◌, Bool, true, false, ◌||◌, ◌&&◌, eqb, cond, not, List, [], ◌∷◌, ◌++◌, length, get_or, map, Option, Some, None, refl, sym, ap, subst, ◌∙◌, arith, IsTrue, inl, inr}
-use Rattle.std.specs.Prelude.{All, nat_le, fold}
+use Rattle.std.proofs.Common.{◌≡◌, ℕ, zero, suc, ◌<◌, ◌≤◌, Bool, true, false, ◌||◌, ◌&&◌, eqb, cond, not, List, [], ◌∷◌, ◌++◌, length, get_or, map, Option, Some, None, refl, arith}
+use Rattle.std.specs.Prelude.{All, nat_le}
 use Rattle.std.specs.List.{list_any, AllByRecursion}
 use Rattle.std.specs.Option.{option_or}
 use Rattle.std.proofs.lemmas.List.Elements.{All-from_recursion}

@@ -1,5 +1,5 @@
 -- Equivalence is swapping.
-use Rattle.std.proofs.Common.{◌≡◌, ℕ, true, false, ◌↔◌, inl, inr, List, [], ◌∷◌, ◌++◌, ◌==◌, IsTrue, refl, sym, ap, subst, ◌∙◌, eqb-true, eq-eqb, ◌<◌}
+use Rattle.std.proofs.Common.{◌≡◌, ℕ, true, false, inl, inr, List, [], ◌∷◌, ◌++◌, ◌==◌, IsTrue, refl, sym, ap, subst, ◌∙◌, eqb-true, eq-eqb, ◌<◌}
 use Rattle.std.proofs.lemmas.Bool.{or_cases, or_left, or_right, cases_Bool, cond-true, cond-false, not-true, not_from_false}
 use Rattle.std.proofs.lemmas.List.Elements.{filter-append, All-head, All-tail, All-cons, All-append, All-nil, All-same}
 use Rattle.std.specs.List.{All}

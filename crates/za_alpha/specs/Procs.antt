@@ -1,5 +1,5 @@
 -- Sets of processes below 16, kept as the bits of a number.
-use Rattle.std.specs.Prelude.{◌≡◌, ℕ, ◌<◌, ◌==◌, ◌^◌, Bool, false, IsTrue, List, filter, bit_or}
+use Rattle.std.specs.Prelude.{◌≡◌, ℕ, ◌<◌, ◌==◌, ◌^◌, false, IsTrue, List, filter, bit_or}
 use Rattle.std.specs.List.{range_with_len}
 use Rattle.std.specs.Int.{bit_at}
 use Rattle.za_alpha.specs.declared.procs.Procs.{Procs}

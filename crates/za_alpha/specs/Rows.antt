@@ -1,5 +1,5 @@
 -- The rows that an alphabet is made of, and the first that is wrong.
-use Rattle.std.specs.Prelude.{ℕ, ◌==◌, ◌&&◌, ◌++◌, ◌<◌, All, Bool, not, nat_le, List, [], ◌∷◌, length, map, fold, Option, Some, None, if◌then◌else◌}
+use Rattle.std.specs.Prelude.{ℕ, ◌==◌, ◌&&◌, ◌++◌, ◌<◌, All, not, nat_le, List, [], ◌∷◌, length, map, fold, Option, Some, None, if◌then◌else◌}
 use Rattle.std.specs.List.{list_any}
 use Rattle.std.specs.Str.{bytes_eq}
 use Rattle.std.specs.Option.{option_or}

@@ -1,11 +1,12 @@
-ghost use Rattle.std.specs.Prelude.{◌≡◌, ℕ, ◌≤◌, ◌<◌, ◌↔◌, length, None, IsTrue, IfOk, MatchResult, unwrap_or, option_map};
-ghost use Rattle.za_alpha.specs.Words.{independent, projection, IsWord, AreEquivalent};
+ghost use Rattle.std.specs.Prelude.{◌≡◌, ℕ, ◌≤◌, ◌<◌, ◌↔◌, length, drop, slice_index, None, IsTrue, IfOk, MatchResult, unwrap_or, option_map};
+ghost use Rattle.za_alpha.specs.Words.{has, independent, projection, IsWord, AreEquivalent};
+ghost use Rattle.za_alpha.specs.Letters.{numbers};
 ghost use Rattle.za_alpha.specs.Rows.{alphabet_fault, alphabet_of_rows};
 ghost use Rattle.za_alpha.specs.Alphabet.{loc_of, name_at, place_of, procs_at, IsDistributed};
 
 use crate::fault::{AlphaFault, OutOfMemory};
 use crate::procs::Procs;
-use crate::rows::{entries_of, fault_of, name_in, place_in};
+use crate::rows::{copies_of, entries_of, fault_of, name_in, place_in};
 use crate::word::{Letter, Word};
 use std::alloc::Global;
 use std::marker::Model;
@@ -110,5 +111,84 @@ impl Alphabet {
         ensures { result ≡ independent (loc_of self.now) a.0 b.0 }
     {
         !self.loc(a).meets(self.loc(b))
+    }
+
+    /// The projection of a word on process `p`: its letters of which `p` is a process, in order.
+    pub fn project(&self, w: &Word, p: usize) -> Result<Word, OutOfMemory>
+        requires word { IsWord (length self.now.letters) w.now }
+        requires process { p < self.now.processes }
+        ensures { IfOk result (λ v. v ≡ projection (loc_of self.now) p w.now) }
+    {
+        let alloc = *self.entries.allocator();
+        let mut seen = Word::new(alloc);
+        let letters = w.letters();
+        for a in letters {
+            if self.loc(*a).has(p) {
+                seen.push(*a)?;
+            }
+        }
+        Ok(seen)
+    }
+
+    /// Whether the words have equal projections on every process, so that they are one trace. It
+    /// takes no memory: it walks through both words once for each process.
+    pub fn same_trace(&self, u: &Word, v: &Word) -> bool
+        requires first { IsWord (length self.now.letters) u.now }
+        requires second { IsWord (length self.now.letters) v.now }
+        ensures { IsTrue result ↔ AreEquivalent (loc_of self.now) u.now v.now }
+    {
+        for p in 0..self.processes {
+            if !self.same_projection(u.letters(), v.letters(), p) {
+                return false;
+            }
+        }
+        true
+    }
+
+    /// An equal alphabet of its own.
+    pub fn copy(&self) -> Result<Alphabet, OutOfMemory>
+        ensures { IfOk result (λ a. a ≡ self.now) }
+    {
+        let alloc = *self.entries.allocator();
+        let entries = copies_of(alloc, self.entries.as_slice())?;
+        Ok(Alphabet {
+            processes: self.processes,
+            entries,
+        })
+    }
+
+    /// The place of the first letter from `at` on that has process `p`, and the length where there
+    /// is none.
+    fn next_of(&self, letters: &[Letter], at: usize, p: usize) -> usize
+        requires word { IsWord (length self.now.letters) (numbers letters.now) }
+        requires within { at ≤ length letters.now }
+        ensures within { at ≤ result × (result ≤ length letters.now) }
+        ensures skipped { projection (loc_of self.now) p (drop at (numbers letters.now)) ≡ projection (loc_of self.now) p (drop result (numbers letters.now)) }
+        ensures found { result < length letters.now → IsTrue (has (loc_of self.now (slice_index (numbers letters.now) result)) p) }
+    {
+        for i in at..letters.len() {
+            if self.loc(letters[i]).has(p) {
+                return i;
+            }
+        }
+        letters.len()
+    }
+
+    /// Whether process `p` sees the same in both.
+    fn same_projection(&self, u: &[Letter], v: &[Letter], p: usize) -> bool
+        requires first { IsWord (length self.now.letters) (numbers u.now) }
+        requires second { IsWord (length self.now.letters) (numbers v.now) }
+        ensures { IsTrue result ↔ (projection (loc_of self.now) p (numbers u.now) ≡ projection (loc_of self.now) p (numbers v.now)) }
+    {
+        let mut i = self.next_of(u, 0, p);
+        let mut j = self.next_of(v, 0, p);
+        'letters: while i < u.len() && j < v.len() {
+            if u[i] != v[j] {
+                return false;
+            }
+            i = self.next_of(u, i + 1, p);
+            j = self.next_of(v, j + 1, p);
+        }
+        i == u.len() && j == v.len()
     }
 }

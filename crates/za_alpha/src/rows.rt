@@ -148,3 +148,17 @@ pub(crate) fn place_in(entries: &[Entry], name: &[u8]) -> Option<usize>
     }
     None
 }
+
+/// Equal entries of their own.
+pub(crate) fn copies_of(alloc: Global, entries: &[Entry]) -> Result<Vec<Entry>, OutOfMemory>
+    ensures { IfOk result (λ copies. map letter_of_entry copies.items ≡ map letter_of_entry entries.now) }
+{
+    let mut copies = Vec::new(alloc);
+    for entry in entries {
+        copies.push(Entry {
+            name: Vec::from_slice(alloc, entry.name.as_slice())?,
+            loc: entry.loc,
+        })?;
+    }
+    Ok(copies)
+}

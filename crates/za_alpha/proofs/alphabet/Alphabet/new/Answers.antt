@@ -1,6 +1,6 @@
-use Rattle.std.proofs.Common.{◌≡◌, None, List, sym, ap, subst, ◌∙◌, map}
-use Rattle.za_alpha.specs.Rows.{alphabet_fault, alphabet_of_rows, letter_of_row}
-use Rattle.za_alpha.specs.Alphabet.{DistributedAlphabet, NamedLetter, IsDistributed, letter_of_entry}
+use Rattle.std.proofs.Common.{◌≡◌, None, List, sym, ap, subst, ◌∙◌}
+use Rattle.za_alpha.specs.Rows.{alphabet_fault}
+use Rattle.za_alpha.specs.Alphabet.{DistributedAlphabet, NamedLetter, IsDistributed}
 use Rattle.za_alpha.proofs.RowLemmas.{small_of_no_fault}
 use Rattle.za_alpha.proofs.Distributed.{distributed_of_rows}
 use Rattle.za_alpha.proofs.alphabet.Alphabet.new.Goals as goal

@@ -1,4 +1,4 @@
-use Rattle.std.proofs.Common.{◌≡◌, ◌∙◌, ap, sym, ℕ, arith}
+use Rattle.std.proofs.Common.{◌≡◌, ◌∙◌, ap, sym, arith}
 use Rattle.za_alpha.proofs.Members.{count_below, count_below-zero, count_below-more, count_below-all}
 use Rattle.za_alpha.proofs.procs.Procs.count.Goals as goal
 

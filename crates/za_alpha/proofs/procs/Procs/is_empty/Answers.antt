@@ -1,5 +1,4 @@
-use Rattle.std.proofs.Common.{◌≡◌, ap, ◌∙◌, eq-eqb, eqb-true, arith, [], List, ℕ}
-use Rattle.za_alpha.specs.declared.procs.Procs.{Procs}
+use Rattle.std.proofs.Common.{ap, ◌∙◌, eq-eqb, eqb-true, arith, List, ℕ}
 use Rattle.za_alpha.specs.Procs.{members}
 use Rattle.za_alpha.proofs.Members.{members-zero, zero-members}
 use Rattle.za_alpha.proofs.procs.Procs.is_empty.Goals as goal
