@@ -1,0 +1,4 @@
+mod Lists
+pub mod Weave
+pub mod Answers
+mod Examples
