@@ -1,5 +1,5 @@
 -- Rows without a fault make a distributed alphabet.
-use Rattle.std.proofs.Common.{◌≡◌, ◌≢◌, ℕ, zero, suc, ◌<◌, ◌≤◌, Bool, true, false, ◌||◌, ◌==◌, eqb, eqb-true, eq-eqb, List, [], ◌∷◌, ◌++◌, length, map, None, refl, sym, ap, ◌∙◌, arith, inl, inr, ◌⊎◌}
+use Rattle.std.proofs.Common.{◌≡◌, ◌≢◌, ℕ, zero, suc, ◌^◌, ◌<◌, ◌≤◌, Bool, true, false, ◌||◌, ◌==◌, eqb, eqb-true, eq-eqb, List, [], ◌∷◌, ◌++◌, length, map, None, refl, sym, ap, subst, ◌∙◌, arith, inl, inr, ◌⊎◌}
 use Rattle.std.specs.Prelude.{nat_le, nat_lt, fold, bit_or}
 use Rattle.std.specs.List.{list_any}
 use Rattle.std.specs.Str.{bytes_eq}
@@ -7,7 +7,7 @@ use Rattle.std.proofs.lemmas.Bool.{cases_Bool, or_left, or_right, or_cases, leb-
 use Rattle.std.proofs.lemmas.Bool.Decides.{nat_tests}
 use Rattle.std.proofs.lemmas.List.{length-map}
 use Rattle.std.proofs.lemmas.List.Folds.{list_any-append}
-use Rattle.std.proofs.lemmas.Nat.{one_shl}
+use Rattle.std.proofs.lemmas.Nat.{one_shl, or_lt, pow_below}
 use Rattle.std.proofs.lemmas.Slice.Eq.{bytes_eq-Decides}
 use Rattle.za_alpha.specs.declared.procs.Procs.{Procs}
 use Rattle.za_alpha.specs.declared.alphabet.LetterRow.{LetterRow}
@@ -41,6 +41,13 @@ has-fold s (p ∷ ps) q small =
     has-fold (with_process s p) ps q (λ r h. small r (or_right (p == r) (has ps r) h))
     ∙ ap (λ b. has ps q || b) (has-with_process s p q low ∙ ap (λ b. b || has (members s) q) (eqb-flip q p))
     ∙ or-middle (has ps q) (p == q) (has (members s) q)
+
+-- a set of small processes is a small number
+set-small : (s : Procs) (ps : List ℕ) → s.0 < 2 ^ 16 → ((p : ℕ) → has ps p ≡ true → p < 16) → (fold with_process s ps).0 < 2 ^ 16
+set-small s [] h small = h
+set-small s (p ∷ ps) h small =
+    let low : p < 16 = small p (or_left (p == p) (has ps p) (eq-eqb p p refl)) in
+    set-small (with_process s p) ps (or_lt 16 s.0 (2 ^ p) h (pow_below p 16 low)) (λ r k. small r (or_right (p == r) (has ps r) k))
 
 or-none : (b : Bool) → (b || false) ≡ b
 or-none true = refl
@@ -150,6 +157,10 @@ distributed_of_rows n rows none =
             | inr (inl less) ↦ absurd (apart_below n [] rows right.rows_right a b less (omega arith) e)
             | inr (inr more) ↦ absurd (apart_below n [] rows right.rows_right b a more (omega arith) (sym e))
           ];
+      small = λ a h.
+          let r = row_at n [] rows right.rows_right a (omega arith) in
+          let P : ℕ → Type 0 = λ k. k < 2 ^ 16 in
+          subst P (sym (ap (λ (s : Procs). s.0) r.loc)) (set-small no_process r.row.procs.items (omega arith) (λ q k. let low : q < n = small a r q k in omega arith));
       located =
           record {
             some = λ a h.

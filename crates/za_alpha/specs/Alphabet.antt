@@ -1,5 +1,5 @@
 -- What contracts see of an alphabet, and the alphabet that rows say.
-use Rattle.std.specs.Prelude.{◌≡◌, ℕ, zero, suc, ◌<◌, ◌≤◌, IsTrue, List, [], ◌∷◌, length, map, Option}
+use Rattle.std.specs.Prelude.{◌≡◌, ℕ, zero, suc, ◌<◌, ◌≤◌, ◌^◌, IsTrue, List, [], ◌∷◌, length, map, Option}
 use Rattle.std.specs.List.{position_from}
 use Rattle.std.specs.Str.{bytes_eq}
 use Rattle.za_alpha.specs.declared.procs.Procs.{Procs}
@@ -48,6 +48,7 @@ pub record IsDistributed (alphabet : DistributedAlphabet) : Type 0 where
   pub few_letters : length alphabet.letters ≤ MOST_LETTERS
   pub names : (a : ℕ) → a < length alphabet.letters → IsTrue (is_name (name_at alphabet.letters a))
   pub apart : (a b : ℕ) → a < length alphabet.letters → b < length alphabet.letters → name_at alphabet.letters a ≡ name_at alphabet.letters b → a ≡ b
+  pub small : (a : ℕ) → a < length alphabet.letters → (procs_at alphabet.letters a).0 < 2 ^ 16
   pub located : IsAlphabet (loc_of alphabet) (length alphabet.letters) alphabet.processes
 
 -- an entry as a letter, wherever its name lies in memory

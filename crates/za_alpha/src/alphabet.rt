@@ -6,7 +6,7 @@ ghost use Rattle.za_alpha.specs.Alphabet.{loc_of, name_at, place_of, procs_at, I
 
 use crate::fault::{AlphaFault, OutOfMemory};
 use crate::procs::Procs;
-use crate::rows::{copies_of, entries_of, fault_of, name_in, place_in};
+use crate::rows::{are_below, copies_of, entries_of, fault_of, name_in, place_in};
 use crate::word::{Letter, Word};
 use std::alloc::Global;
 use std::marker::Model;
@@ -111,6 +111,13 @@ impl Alphabet {
         ensures { result ≡ independent (loc_of self.now) a.0 b.0 }
     {
         !self.loc(a).meets(self.loc(b))
+    }
+
+    /// Whether each letter of a word is one of the alphabet's.
+    pub fn has_word(&self, w: &Word) -> bool
+        ensures { IsTrue result ↔ IsWord (length self.now.letters) w.now }
+    {
+        are_below(w.letters(), self.entries.len())
     }
 
     /// The projection of a word on process `p`: its letters of which `p` is a process, in order.

@@ -15,3 +15,6 @@ pub use laws::equivalence_is_swapping;
 pub use procs::Procs;
 pub use rows::{MOST_LETTERS, MOST_PROCESSES};
 pub use word::{Letter, Word};
+
+#[cfg(test)]
+mod tests;

@@ -1,6 +1,8 @@
-ghost use Rattle.std.specs.Prelude.{◌≡◌, ◌<◌, All, map, IfOk, IfSome, length, nat_le, ◌&&◌, ◌||◌, ◌==◌};
+ghost use Rattle.std.specs.Prelude.{◌≡◌, ◌<◌, ◌↔◌, IsTrue, All, map, IfOk, IfSome, length, nat_le, ◌&&◌, ◌||◌, ◌==◌};
 ghost use Rattle.std.specs.List.{list_any, list_all};
 ghost use Rattle.std.specs.Str.{bytes_eq};
+ghost use Rattle.za_alpha.specs.Words.{IsWord};
+ghost use Rattle.za_alpha.specs.Letters.{numbers};
 ghost use Rattle.za_alpha.specs.Names.{is_name_byte, begins_with_digit, is_name};
 ghost use Rattle.za_alpha.specs.Rows.{row_fault, alphabet_fault, set_of, letter_of_row, HasSmallProcesses};
 ghost use Rattle.za_alpha.specs.Alphabet.{letter_of_entry, name_at, place_of};
@@ -161,4 +163,17 @@ pub(crate) fn copies_of(alloc: Global, entries: &[Entry]) -> Result<Vec<Entry>, 
         })?;
     }
     Ok(copies)
+}
+
+fn letters_are_below(letters: &[Letter], bound: usize) -> bool
+    ensures { IsTrue result ↔ All (λ (a : Letter). a.0 < bound) letters.now }
+{
+    letters.iter().all(|a| (a.0 as usize) < bound)
+}
+
+/// Whether each letter is below a bound.
+pub(crate) fn are_below(letters: &[Letter], bound: usize) -> bool
+    ensures { IsTrue result ↔ IsWord bound (numbers letters.now) }
+{
+    letters_are_below(letters, bound)
 }
