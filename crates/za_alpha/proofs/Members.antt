@@ -10,7 +10,7 @@ use Rattle.std.proofs.lemmas.List.Elements.{filter-append}
 use Rattle.std.proofs.lemmas.Map.Views.{any-filter_same}
 use Rattle.za_alpha.specs.declared.procs.Procs.{Procs}
 use Rattle.za_alpha.specs.Words.{has, meets}
-use Rattle.za_alpha.specs.Procs.{members}
+use Rattle.za_alpha.specs.Procs.{members, members_below}
 use Rattle.za_alpha.proofs.Swaps.{meets-elim, meets-intro}
 
 -- which numbers are in a range
@@ -26,7 +26,7 @@ pub has-filter : (test : ℕ → Bool) (ps : List ℕ) (p : ℕ) → has (filter
 has-filter test ps p = any-filter_same (λ q. q == p) test (test p) (λ q h. ap test (eqb-true q p h)) ps
 
 members-is : (s : Procs) → members s ≡ filter (λ q. eqb (bit_at s.0 q) 1) (range_with_len 0 16)
-unfolding members
+unfolding members_below
 members-is s = refl
 
 -- a process is in the set exactly if its bit is set
@@ -156,41 +156,41 @@ and-meets a b h small =
     meets-intro (members (record { 0 = a })) (members (record { 0 = b })) at
     (has-members (record { 0 = a }) at ∙ rw (ha, low) refl) (has-members (record { 0 = b }) at ∙ rw (hb, low) refl)
 
--- the members below p + 1, from those below p
+-- a range with one number more
 pub range-more : (a n : ℕ) → range_with_len a (n + 1) ≡ range_with_len a n ++ (a + n) ∷ []
 range-more a zero = grind (arith)
 range-more a (suc n) = let ih = range-more (a + 1) n in grind (arith, ih)
+
+zero-plus : (n : ℕ) → 0 + n ≡ n
+zero-plus n = omega arith
+
+pub range-below-more : (n : ℕ) → range_with_len 0 (n + 1) ≡ range_with_len 0 n ++ n ∷ []
+range-below-more n = range-more 0 n ∙ ap (λ k. range_with_len 0 n ++ k ∷ []) (zero-plus n)
+
+-- the numbers below n + 1 that pass a test, from those below n
+pub filter-range-more : (test : ℕ → Bool) (n : ℕ) → filter test (range_with_len 0 (n + 1)) ≡ filter test (range_with_len 0 n) ++ cond (test n) (n ∷ []) []
+filter-range-more test n = ap (filter test) (range-below-more n) ∙ filter-append test (range_with_len 0 n) (n ∷ [])
+
+-- the processes below n + 1, from those below n
+pub members_below-zero : (s : Procs) → members_below s 0 ≡ []
+unfolding members_below
+members_below-zero s = refl
+
+pub members_below-more : (s : Procs) (n : ℕ) → n < 16 → members_below s (n + 1) ≡ members_below s n ++ cond (has (members s) n) (n ∷ []) []
+unfolding members_below
+members_below-more s n h =
+    let low : nat_lt n 16 ≡ true = grind (arith, nat_tests) in
+    let same : has (members s) n ≡ eqb (bit_at s.0 n) 1 = has-members s n ∙ rw low (and-true (eqb (bit_at s.0 n) 1)) in
+    filter-range-more (λ q. eqb (bit_at s.0 q) 1) n ∙ ap (λ b. filter (λ q. eqb (bit_at s.0 q) 1) (range_with_len 0 n) ++ cond b (n ∷ []) []) (sym same)
 
 one_or_none : (b : Bool) (a : ℕ) → length (cond b (a ∷ []) []) ≡ cond b 1 0
 one_or_none true a = refl
 one_or_none false a = refl
 
-pub filter-range-more : (test : ℕ → Bool) (n : ℕ) → length (filter test (range_with_len 0 (n + 1))) ≡ length (filter test (range_with_len 0 n)) + cond (test n) 1 0
-filter-range-more test n =
-    let z : 0 + n ≡ n = omega arith in
-    ap (λ ps. length (filter test ps)) (range-more 0 n)
-    ∙ ap length (filter-append test (range_with_len 0 n) ((0 + n) ∷ []))
-    ∙ length-append (filter test (range_with_len 0 n)) (filter test ((0 + n) ∷ []))
-    ∙ ap (λ k. length (filter test (range_with_len 0 n)) + k) (one_or_none (test (0 + n)) (0 + n) ∙ ap (λ k. cond (test k) 1 0) z)
-
--- how many of the processes below n are in a set
-pub count_below : Procs → ℕ → ℕ
-count_below s n = length (filter (λ q. eqb (bit_at s.0 q) 1) (range_with_len 0 n))
-
-pub count_below-zero : (s : Procs) → count_below s 0 ≡ 0
-unfolding count_below
-count_below-zero s = refl
-
-pub count_below-all : (s : Procs) → count_below s 16 ≡ length (members s)
-unfolding count_below
-count_below-all s = sym (ap length (members-is s))
-
-pub count_below-more : (s : Procs) (n : ℕ) → n < 16 → count_below s (n + 1) ≡ count_below s n + cond (has (members s) n) 1 0
-unfolding count_below
-count_below-more s n h =
-    let low : nat_lt n 16 ≡ true = grind (arith, nat_tests) in
-    let same : has (members s) n ≡ eqb (bit_at s.0 n) 1 = has-members s n ∙ rw low (and-true (eqb (bit_at s.0 n) 1)) in
-    filter-range-more (λ q. eqb (bit_at s.0 q) 1) n ∙ ap (λ b. length (filter (λ q. eqb (bit_at s.0 q) 1) (range_with_len 0 n)) + cond b 1 0) (sym same)
+pub length-members_below-more : (s : Procs) (n : ℕ) → n < 16 → length (members_below s (n + 1)) ≡ length (members_below s n) + cond (has (members s) n) 1 0
+length-members_below-more s n h =
+    ap length (members_below-more s n h) ∙ length-append (members_below s n) (cond (has (members s) n) (n ∷ []) [])
+    ∙ ap (λ k. length (members_below s n) + k) (one_or_none (has (members s) n) n)
 
 -- a set of which no process below 16 is a member is empty
 pub members-empty : (s : Procs) → ((p : ℕ) → p < 16 → has (members s) p ≡ false) → members s ≡ []

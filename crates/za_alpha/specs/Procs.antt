@@ -5,9 +5,13 @@ use Rattle.std.specs.Int.{bit_at}
 use Rattle.za_alpha.specs.declared.procs.Procs.{Procs}
 use Rattle.za_alpha.specs.Words.{has}
 
+-- the processes of the set that are below n, in rising order
+unfoldable pub members_below : Procs → ℕ → List ℕ
+members_below s n = filter (λ p. bit_at s.0 p == 1) (range_with_len 0 n)
+
 -- the processes of the set, in rising order
-unfoldable pub members : Procs → List ℕ
-members s = filter (λ p. bit_at s.0 p == 1) (range_with_len 0 16)
+abbrev pub members : Procs → List ℕ
+members s = members_below s 16
 
 -- the empty set
 abbrev pub no_process : Procs
