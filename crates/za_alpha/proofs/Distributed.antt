@@ -43,7 +43,7 @@ has-fold s (p ∷ ps) q small =
     ∙ or-middle (has ps q) (p == q) (has (members s) q)
 
 -- a set of small processes is a small number
-set-small : (s : Procs) (ps : List ℕ) → s.0 < 2 ^ 16 → ((p : ℕ) → has ps p ≡ true → p < 16) → (fold with_process s ps).0 < 2 ^ 16
+pub set-small : (s : Procs) (ps : List ℕ) → s.0 < 2 ^ 16 → ((p : ℕ) → has ps p ≡ true → p < 16) → (fold with_process s ps).0 < 2 ^ 16
 set-small s [] h small = h
 set-small s (p ∷ ps) h small =
     let low : p < 16 = small p (or_left (p == p) (has ps p) (eq-eqb p p refl)) in

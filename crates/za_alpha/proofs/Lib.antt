@@ -3,3 +3,4 @@ pub mod Members
 pub mod RowLemmas
 pub mod Distributed
 pub mod Projections
+pub mod RoundTrip
