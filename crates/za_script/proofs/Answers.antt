@@ -3,7 +3,7 @@ use Rattle.std.proofs.Common.{◌≡◌, ℕ, List, sym, ◌∙◌}
 use Rattle.za_dfa.specs.Automata.{Automaton, is_accepted, IsTraceClosed}
 use Rattle.za_script.specs.Scripts.{weave, Weaves}
 use Rattle.za_script.specs.Laws.{AcceptIsOfTheWeave, RejectIsOfTheWeave, StuckIsOfTheWeave}
-use Rattle.za_script.proofs.Weave.{weave_decides}
+use Rattle.za_script.proofs.Confluence.{weave_decides}
 
 -- words that weave the same scripts are accepted alike
 weave-alike : (loc : ℕ → List ℕ) (d : Automaton) (scripts : ℕ → List ℕ) (u v : List ℕ) → IsTraceClosed loc d → Weaves loc d.letters scripts u → Weaves loc d.letters scripts v →

@@ -1,4 +1,8 @@
 mod Lists
-pub mod Weave
+pub mod Confluence
 pub mod Answers
+pub mod Totals
+pub mod LetterLists
+pub mod Firing
+pub mod Standing
 mod Examples

@@ -1,7 +1,7 @@
 -- Tests over lists, least numbers and counts.
-use Rattle.std.proofs.Common.{◌≡◌, ℕ, zero, suc, ◌<◌, Bool, true, false, inl, inr, List, [], ◌∷◌, ◌++◌, ◌==◌, length, filter, refl, sym, ap, subst, ◌∙◌, arith, cond, eqb-true, eq-eqb}
+use Rattle.std.proofs.Common.{◌≡◌, ℕ, zero, suc, ◌<◌, ◌≤◌, Bool, true, false, inl, inr, List, [], ◌∷◌, ◌++◌, ◌==◌, length, filter, refl, sym, ap, subst, ◌∙◌, arith, cond, eqb-true, eq-eqb}
 use Rattle.std.specs.List.{list_all}
-use Rattle.std.proofs.lemmas.Bool.{or_cases, or_left, or_right, cond_both, cases_Bool, cond-true, cond-false, and_parts, and_cases}
+use Rattle.std.proofs.lemmas.Bool.{or_cases, or_left, or_right, cond_both, cases_Bool, cond-true, cond-false, and_parts, and_from, and_cases, cases_lt}
 use Rattle.za_alpha.specs.Words.{has, least}
 
 -- where the least number is found, it passes the test
@@ -25,6 +25,30 @@ least-below test (suc n) (suc k) h =
       | inr t ↦ least-below (λ k. test (suc k)) n k (let z = cond-false (test 0) 0 (suc (least (λ k. test (suc k)) n)) t in omega arith)
     ]
 
+-- the least number is at most each that passes
+least-le : (test : ℕ → Bool) (n m : ℕ) → test m ≡ true → least test n ≤ m
+least-le test n m t =
+    elim (cases_lt m (least test n)) [
+      | inl lt ↦ absurd (let f = least-below test n m lt in let e : true ≡ false = sym t ∙ f in cc)
+      | inr ge ↦ ge
+    ]
+
+-- the first number that passes is the least
+pub least-is : (test : ℕ → Bool) (n m : ℕ) → m < n → ((k : ℕ) → k < m → test k ≡ false) → test m ≡ true → m ≡ least test n
+least-is test n m l h t =
+    let le = least-le test n m t in
+    elim (cases_lt (least test n) m) [
+      | inl lt ↦ absurd (let a = h (least test n) lt in let b = least-true test n (omega arith) in cc)
+      | inr ge ↦ omega arith
+    ]
+
+-- where none passes there is none
+pub least-none : (test : ℕ → Bool) (n : ℕ) → ((k : ℕ) → k < n → test k ≡ false) → n ≡ least test n
+least-none test zero h = refl
+least-none test (suc n) h =
+    let e = cond-false (test 0) 0 (suc (least (λ k. test (suc k)) n)) (h 0 (omega arith)) in
+    let k = least-none (λ k. test (suc k)) n (λ k l. h (suc k) (omega arith)) in omega arith
+
 -- a list has its first
 pub has-own : (p : ℕ) (ps : List ℕ) → has (p ∷ ps) p ≡ true
 has-own p ps = or_left (p == p) (has ps p) (eq-eqb p p refl)
@@ -35,6 +59,11 @@ all-at test [] p h k = cc
 all-at test (q ∷ ps) p h k =
     let b = and_parts (test q) (list_all test ps) h in
     elim (or_cases (q == p) (has ps p) k) [ inl e ↦ subst (λ x. test x ≡ true) (eqb-true q p e) b.0 | inr r ↦ all-at test ps p b.1 r ]
+
+-- where each passes, all do
+pub all-from : (test : ℕ → Bool) (ps : List ℕ) → ((p : ℕ) → has ps p ≡ true → test p ≡ true) → list_all test ps ≡ true
+all-from test [] h = refl
+all-from test (q ∷ ps) h = and_from (test q) (list_all test ps) (h q (has-own q ps)) (all-from test ps (λ p m. h p (or_right (q == p) (has ps p) m)))
 
 -- where not all pass, one fails
 pub all-fails : (test : ℕ → Bool) (ps : List ℕ) → list_all test ps ≡ false → (p : ℕ) × (has ps p ≡ true) × (test p ≡ false)

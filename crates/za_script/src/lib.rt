@@ -2,7 +2,14 @@
 #![tactic(auto)]
 
 mod answer;
+mod fault;
 mod laws;
+mod loom;
+mod scripts;
+mod woven;
 
 pub use answer::Answer;
+pub use fault::{MOST_SCRIPT_LETTERS, ScriptFault};
 pub use laws::{answer_is_of_the_weave, weaving_is_confluent};
+pub use scripts::Scripts;
+pub use woven::{Woven, weave};

@@ -1,4 +1,4 @@
-use Rattle.za_script.proofs.Weave.{weave_is_maximal, maximal_words_are_one_trace, weave_decides, maximal_words_weave}
+use Rattle.za_script.proofs.Confluence.{weave_is_maximal, maximal_words_are_one_trace, weave_decides, maximal_words_weave}
 use Rattle.za_script.proofs.laws.weaving_is_confluent.Goals as goal
 
 pub returns-clause-maximal : goal.returns-clause-maximal

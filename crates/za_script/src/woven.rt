@@ -1,0 +1,81 @@
+ghost use Rattle.std.specs.Prelude.{◌≡◌, ◌<◌, ◌↔◌, ℕ, IsTrue, IfOk, length, slice_index};
+ghost use Rattle.za_alpha.specs.Words.{projection};
+ghost use Rattle.za_alpha.specs.Alphabet.{loc_of};
+ghost use Rattle.za_script.specs.Scripts.{weave, Weaves};
+ghost use Rattle.za_script.specs.ScriptLists.{script_of, FitAlphabet};
+
+use crate::loom::Loom;
+use crate::scripts::Scripts;
+use std::alloc::Global;
+use std::marker::Model;
+use za_alpha::{Alphabet, OutOfMemory, Word};
+
+/// The word that scripts weave to, how many of its letters each process has, and whether the scripts
+/// are used up.
+#[derive(Debug, Drop)]
+pub struct Woven {
+    word: Word,
+    counts: Vec<usize>,
+    whole: bool,
+}
+
+impl Model for Woven {
+    ghost use Rattle.za_script.specs.Wovens.{WovenWord};
+
+    ghost Value = { WovenWord };
+
+    ghost view = { λ w. record { word = w.word; counts = w.counts.items; whole = w.whole } };
+}
+
+impl Woven {
+    /// The woven word.
+    pub fn word(&self) -> &Word
+        ensures { result.now ≡ self.now.word }
+    {
+        &self.word
+    }
+
+    /// How many letters of the word process `p` has.
+    pub fn count(&self, p: usize) -> usize
+        requires { p < length self.now.counts }
+        ensures { result ≡ slice_index self.now.counts p }
+    {
+        self.counts[p]
+    }
+
+    /// Whether every script is used up.
+    pub fn whole(&self) -> bool
+        ensures { result ≡ self.now.whole }
+    {
+        self.whole
+    }
+}
+
+/// Weaves the scripts: fires the least letter that is next at all its processes, until none is. The
+/// letters that a process fires are its script's first ones, as many as its count says. The word is
+/// whole exactly if every script is used up, and then the word weaves the scripts.
+pub fn weave(alloc: Global, alphabet: &Alphabet, scripts: &Scripts) -> Result<Woven, OutOfMemory>
+    requires { FitAlphabet alphabet.now scripts.now }
+    ensures word { IfOk result (λ w. w.word ≡ weave (loc_of alphabet.now)
+        (length alphabet.now.letters) alphabet.now.processes (script_of scripts.now)) }
+    ensures processes { IfOk result (λ w. length w.counts ≡ alphabet.now.processes) }
+    ensures counts { IfOk result (λ w. (p : ℕ) → p < alphabet.now.processes →
+        slice_index w.counts p ≡ length (projection (loc_of alphabet.now) p w.word)) }
+    ensures used_up { IfOk result (λ w. IsTrue w.whole ↔ ((p : ℕ) → p < alphabet.now.processes →
+        slice_index w.counts p ≡ length (script_of scripts.now p))) }
+    ensures whole { IfOk result (λ w. IsTrue w.whole ↔ Weaves (loc_of alphabet.now)
+        (length alphabet.now.letters) (script_of scripts.now) w.word) }
+{
+    let mut loom = Loom::start(alloc, alphabet, scripts)?;
+    let mut word = Word::new(alloc);
+    while let Some(a) = loom.least_enabled(alphabet) {
+        word.push(a)?;
+        loom.fire(alphabet, scripts, a);
+    }
+    let whole = loom.is_done(scripts);
+    Ok(Woven {
+        word,
+        counts: loom.places,
+        whole,
+    })
+}
