@@ -1,0 +1,19 @@
+pub mod Options
+pub mod Sets
+pub mod Chains
+pub mod Views
+pub mod Greatest
+pub mod Entries
+pub mod Maximal
+pub mod Participants
+pub mod ViewLaws
+pub mod Subwords
+pub mod Steps
+pub mod Least
+pub mod Labels
+pub mod Numbers
+pub mod Ranks
+pub mod Matches
+pub mod Equivalent
+mod Examples
+pub mod Marking
