@@ -1,1 +1,6 @@
 pub mod Diamonds
+pub mod RowLemmas
+pub mod GridLemmas
+pub mod CellLemmas
+pub mod TableLemmas
+pub mod DiamondLemmas

@@ -1,0 +1,138 @@
+ghost use Rattle.std.specs.Prelude.{◌≡◌, ℕ, ◌<◌, ◌∷◌, ◌++◌, [], All, Bool, false, None, length, nat_lt, slice_index_or, unwrap_or, MatchResult, IfOk, if◌then◌else◌};
+ghost use Rattle.za_alpha.specs.Words.{IsWord};
+ghost use Rattle.za_alpha.specs.Letters.{numbers};
+ghost use Rattle.za_dfa.specs.Automata.{walk, is_accepted};
+ghost use Rattle.za_dfa.specs.Rows.{dfa_fault, completed};
+ghost use Rattle.za_dfa.specs.Tables.{step_of, accepts_at, automaton_of, IsComplete};
+
+use crate::fault::DfaFault;
+use crate::rows::{Row, table_of};
+use std::alloc::Global;
+use std::marker::Model;
+use za_alpha::{Alphabet, Letter, OutOfMemory, Word};
+
+/// A deterministic automaton over an alphabet, as a table: each letter leads from each state to a
+/// state.
+#[derive(Debug, Drop)]
+pub struct Dfa {
+    alphabet: Alphabet,
+    states: usize,
+    start: u8,
+    accepting: Vec<bool>,
+    targets: Vec<u8>,
+}
+
+impl Model for Dfa {
+    ghost use Rattle.za_dfa.specs.Tables.{CompleteDfa, table_of, IsCompleteInside};
+
+    ghost Value = { CompleteDfa };
+
+    ghost view = { table_of };
+
+    ghost invariant = { IsCompleteInside };
+}
+
+/// Which states accept: the given ones, and none that is added.
+fn accepting_of(mut accepting: Vec<bool>, states: usize) -> Result<Vec<bool>, OutOfMemory>
+    ensures { IfOk result (λ all. all.items ≡ (if nat_lt (length accepting.items) states then accepting.items ++ false ∷ [] else accepting.items)) }
+{
+    if accepting.len() < states {
+        accepting.push(false)?;
+    }
+    Ok(accepting)
+}
+
+impl Dfa {
+    /// The table of the rows over the alphabet, with states from 0 on. `accepting` says of each
+    /// state whether it accepts. An equal row given again changes nothing. If some state and letter
+    /// have no row, one rejecting state with number `states` is added, to which they lead, and which
+    /// leads to itself. The first fault is named, and of the rows the first wrong one.
+    pub fn complete(
+        alloc: Global,
+        alphabet: Alphabet,
+        states: u32,
+        start: u32,
+        accepting: Vec<bool>,
+        rows: &[Row],
+    ) -> Result<Dfa, DfaFault>
+        requires known_letters { All (λ (row : Row). row.letter.0 < length alphabet.letters) rows.now }
+        requires each_state { length accepting.items ≡ states }
+        ensures { MatchResult result
+            (λ d. (dfa_fault states start rows.now ≡ None) × (d ≡ completed alphabet states start accepting.items rows.now))
+            (λ e. e ≡ unwrap_or (dfa_fault states start rows.now) DfaFault.OutOfMemory) }
+    {
+        let table = table_of(alloc, alphabet.letters(), states, start, rows)?;
+        let accepting = accepting_of(accepting, table.states)?;
+        Ok(Dfa {
+            alphabet,
+            states: table.states,
+            start: start as u8,
+            accepting,
+            targets: table.targets,
+        })
+    }
+
+    /// The alphabet.
+    pub fn alphabet(&self) -> &Alphabet
+        ensures { result.now ≡ self.now.alphabet }
+    {
+        &self.alphabet
+    }
+
+    /// How many states there are: the given ones, and the added one where a row was missing.
+    pub fn states(&self) -> usize
+        ensures value { result ≡ self.now.states }
+        ensures whole { IsComplete self.now }
+    {
+        self.states
+    }
+
+    /// The start state.
+    pub fn start(&self) -> u8
+        ensures value { result ≡ self.now.start }
+        ensures within { result < self.now.states }
+    {
+        self.start
+    }
+
+    /// Where a letter leads from state `q`.
+    pub fn step(&self, q: u8, a: Letter) -> u8
+        requires state { q < self.now.states }
+        requires letter { a.0 < length self.now.alphabet.letters }
+        ensures value { result ≡ step_of self.now q a.0 }
+        ensures within { result < self.now.states }
+    {
+        self.targets[q as usize * self.alphabet.letters() + a.0 as usize]
+    }
+
+    /// Where a word leads from state `q`.
+    pub fn run(&self, q: u8, w: &Word) -> u8
+        requires state { q < self.now.states }
+        requires word { IsWord (length self.now.alphabet.letters) w.now }
+        ensures value { result ≡ walk (step_of self.now) q w.now }
+        ensures within { result < self.now.states }
+    {
+        let letters = w.letters();
+        let mut state = q;
+        for a in letters {
+            state = self.step(state, *a);
+        }
+        state
+    }
+
+    /// Whether state `q` accepts.
+    pub fn accepting(&self, q: u8) -> bool
+        requires { q < self.now.states }
+        ensures { result ≡ accepts_at self.now q }
+    {
+        self.accepting[q as usize]
+    }
+
+    /// Whether the word leads from the start to a state that accepts.
+    pub fn accepts(&self, w: &Word) -> bool
+        requires { IsWord (length self.now.alphabet.letters) w.now }
+        ensures { result ≡ is_accepted (automaton_of self.now) w.now }
+    {
+        self.accepting(self.run(self.start(), w))
+    }
+}
