@@ -4,3 +4,4 @@ pub mod GridLemmas
 pub mod CellLemmas
 pub mod TableLemmas
 pub mod DiamondLemmas
+pub mod RoundTrip
