@@ -3,47 +3,58 @@ use Rattle.std.proofs.Common.{◌≡◌, ℕ, zero, suc, true, false, List, [], 
 use Rattle.za_alpha.specs.Words.{projection}
 use Rattle.za_dfa.specs.Automata.{Automaton, is_accepted}
 use Rattle.za_script.specs.Scripts.{weave, is_enabled}
+use Rattle.za_script.specs.ScriptLists.{script_of, total_of}
 
 abbrev two_loc : ℕ → List ℕ
 two_loc zero = 0 ∷ []
 two_loc (suc zero) = 1 ∷ []
 two_loc (suc (suc n)) = 0 ∷ 1 ∷ []
 
--- scripts of two processes
-abbrev pair : List ℕ → List ℕ → ℕ → List ℕ
-pair s t zero = s
-pair s t (suc zero) = t
-pair s t (suc (suc n)) = []
+-- the scripts `a c a` and `b c`
+abbrev whole : List (List ℕ)
+whole = (0 ∷ 2 ∷ 0 ∷ []) ∷ (1 ∷ 2 ∷ []) ∷ []
 
--- `a c a` and `b c` weave to `a b c a`
-woven : weave two_loc 3 2 (pair (0 ∷ 2 ∷ 0 ∷ []) (1 ∷ 2 ∷ [])) ≡ 0 ∷ 1 ∷ 2 ∷ 0 ∷ []
+total : total_of whole ≡ 5
+total = refl
+
+-- they weave to `a b c a`
+woven : weave two_loc 3 2 (script_of whole) ≡ 0 ∷ 1 ∷ 2 ∷ 0 ∷ []
 woven = refl
 
--- which uses up the scripts
-woven_first : projection two_loc 0 (0 ∷ 1 ∷ 2 ∷ 0 ∷ []) ≡ 0 ∷ 2 ∷ 0 ∷ []
+-- which uses them up
+woven_first : projection two_loc 0 (weave two_loc 3 2 (script_of whole)) ≡ script_of whole 0
 woven_first = refl
 
-woven_second : projection two_loc 1 (0 ∷ 1 ∷ 2 ∷ 0 ∷ []) ≡ 1 ∷ 2 ∷ []
+woven_second : projection two_loc 1 (weave two_loc 3 2 (script_of whole)) ≡ script_of whole 1
 woven_second = refl
 
--- after `a`, c waits for process 1
-waits : is_enabled two_loc (pair (0 ∷ 2 ∷ 0 ∷ []) (1 ∷ 2 ∷ [])) (0 ∷ []) 2 ≡ false
+-- after `a`, c waits for process 1, and after `a b` for none
+waits : is_enabled two_loc (script_of whole) (0 ∷ []) 2 ≡ false
 waits = refl
 
--- `c a` and `b` weave to `b`, which leaves the first script whole
-stuck : weave two_loc 3 2 (pair (2 ∷ 0 ∷ []) (1 ∷ [])) ≡ 1 ∷ []
-stuck = refl
+next : is_enabled two_loc (script_of whole) (0 ∷ 1 ∷ []) 2 ≡ true
+next = refl
 
-stuck_first : projection two_loc 0 (1 ∷ []) ≡ []
+-- the scripts `c a` and `b` weave to `b`, of which process 0 has nothing
+abbrev stuck : List (List ℕ)
+stuck = (2 ∷ 0 ∷ []) ∷ (1 ∷ []) ∷ []
+
+stuck_word : weave two_loc 3 2 (script_of stuck) ≡ 1 ∷ []
+stuck_word = refl
+
+stuck_first : projection two_loc 0 (weave two_loc 3 2 (script_of stuck)) ≡ []
 stuck_first = refl
 
--- no scripts weave to the empty word
-nothing : weave two_loc 3 2 (pair [] []) ≡ []
+-- no letters weave to the empty word
+nothing : weave two_loc 3 2 (script_of ([] ∷ [] ∷ [])) ≡ []
 nothing = refl
 
--- goes to state 1 with the second of b and c, where a leads back
-abbrev last_automaton : Automaton
-last_automaton = record { states = 2; letters = 3; start = 0; step = λ q a. cond (q == 0) 0 (cond (a == 0) 0 1); accepts = λ q. q == 0 }
+-- the automaton of an even number of a accepts the weave of `a c a` and `b c`, and not that of `a c` and `b c`
+abbrev even : Automaton
+even = record { states = 2; letters = 3; start = 0; step = λ q a. cond (a == 0) (cond (q == 0) 1 0) q; accepts = λ q. q == 0 }
 
-accepted : is_accepted last_automaton (0 ∷ 1 ∷ 2 ∷ 0 ∷ []) ≡ true
+accepted : is_accepted even (weave two_loc 3 2 (script_of whole)) ≡ true
 accepted = refl
+
+rejected : is_accepted even (weave two_loc 3 2 (script_of ((0 ∷ 2 ∷ []) ∷ (1 ∷ 2 ∷ []) ∷ []))) ≡ false
+rejected = refl

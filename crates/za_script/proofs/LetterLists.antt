@@ -1,5 +1,5 @@
 -- What holds of each letter of a list.
-use Rattle.std.proofs.Common.{◌≡◌, ℕ, ◌<◌, List, length, map, get_or, sym, ap, subst, ◌∙◌, arith}
+use Rattle.std.proofs.Common.{◌≡◌, ℕ, ◌<◌, List, length, get_or, sym, subst, arith}
 use Rattle.std.proofs.lemmas.List.{get_or-map, length-map}
 use Rattle.std.specs.List.{All}
 use Rattle.za_alpha.specs.declared.word.Letter.{Letter}
@@ -21,11 +21,3 @@ letter-all P xs e k l h =
 -- what holds of each number of a script holds of the letter at a place
 pub letter-of : (P : ℕ → Type 0) (script : List ℕ) (xs : List Letter) (e : Letter) (k : ℕ) → numbers xs ≡ script → k < length xs → All P script → P (get_or xs k e).0
 letter-of P script xs e k same l h = letter-all P xs e k l (subst (All P) (sym same) h)
-
--- the number at a place of a script is that of the letter there
-pub letter-at : (script : List ℕ) (xs : List Letter) (e : Letter) (k : ℕ) → numbers xs ≡ script → k < length xs → get_or script k 0 ≡ (get_or xs k e).0
-letter-at script xs e k same l = ap (λ w. get_or w k 0) (sym same) ∙ get_or-map (λ (a : Letter). a.0) xs k e 0 l
-
--- a script has as many numbers as letters
-pub letters-length : (script : List ℕ) (xs : List Letter) → numbers xs ≡ script → length xs ≡ length script
-letters-length script xs same = sym (length-map xs (λ (a : Letter). a.0)) ∙ ap length same

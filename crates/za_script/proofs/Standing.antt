@@ -1,7 +1,7 @@
 -- Where the loop of a weaving stands: the word so far is what the definition has made.
-use Rattle.std.proofs.Common.{◌≡◌, ℕ, zero, suc, ◌+◌, ◌-◌, ◌<◌, ◌≤◌, Bool, true, false, ◌&&◌, ◌↔◌, inl, inr, List, [], ◌∷◌, ◌++◌, ◌==◌, length, slice_index, nat_lt, IsTrue, refl, sym, ap, subst, ◌∙◌, arith, cond, length-append, ltb-true, eqb-true, append-nil}
-use Rattle.std.specs.List.{All, list_all}
-use Rattle.std.proofs.lemmas.Bool.{cases_Bool, cases_lt, lt-ltb, le-ltb, cond-true, cond-false, and_parts, and_from}
+use Rattle.std.proofs.Common.{◌≡◌, ℕ, zero, suc, ◌+◌, ◌-◌, ◌<◌, ◌≤◌, true, false, ◌↔◌, inl, inr, List, [], ◌∷◌, ◌++◌, ◌==◌, length, slice_index, nat_lt, refl, sym, ap, subst, ◌∙◌, arith, cond, length-append, ltb-true, eqb-true, append-nil}
+use Rattle.std.specs.List.{All}
+use Rattle.std.proofs.lemmas.Bool.{cases_Bool, cases_lt, lt-ltb, le-ltb, cond-true, cond-false, and_parts}
 use Rattle.std.proofs.lemmas.List.{get_or_past}
 use Rattle.std.proofs.lemmas.List.Elements.{All-nil, filter-append}
 use Rattle.za_alpha.specs.declared.procs.Procs.{Procs}
@@ -9,10 +9,10 @@ use Rattle.za_alpha.specs.Words.{has, IsAlphabet, projection, least}
 use Rattle.za_alpha.specs.Alphabet.{DistributedAlphabet, loc_of}
 use Rattle.za_alpha.proofs.Swaps.{seen-take, seen-skip}
 use Rattle.za_script.specs.Scripts.{comes_next, is_enabled, weave_from, total, weave, Fits, Weaves}
-use Rattle.za_script.specs.ScriptLists.{script_of, total_of, IsLetterOf, FitAlphabet}
-use Rattle.za_script.specs.Looms.{set_at, IsReady, IsComplete, IsLeastComplete, NoneComplete}
-use Rattle.za_script.proofs.Lists.{least-true, least-is, least-none, all-at, all-from}
-use Rattle.za_script.proofs.Confluence.{fits-more, fits-length, empty-fits, weave_is_maximal}
+use Rattle.za_script.specs.ScriptLists.{script_of, IsLetterOf, FitAlphabet}
+use Rattle.za_script.specs.Weaving.{IsReady, IsComplete, IsLeastComplete, NoneComplete}
+use Rattle.za_script.proofs.Lists.{least-is, least-none, all-at, all-from}
+use Rattle.za_script.proofs.Confluence.{fits-more, fits-length, empty-fits}
 
 -- the letter that comes next is one of the script
 next-own : (P : ℕ → Type 0) (script : List ℕ) (n a : ℕ) → comes_next script n a ≡ true → All P script → P a
@@ -61,8 +61,8 @@ module _ (alphabet : DistributedAlphabet) (scripts : List (List ℕ)) (al : IsAl
   complete-enabled places sets word a s la k =
       all-from (λ p. comes_next (script_of scripts p) (length (projection (loc_of alphabet) p word)) a) (loc_of alphabet a)
       (λ p own.
-        let size = s.letters in
-        ap (λ n. comes_next (script_of scripts p) n a) (sym (s.seen p (al.below a p la own))) ∙ sym (s.ready.next a p (omega arith)) ∙ k.same p ∙ own)
+      let size = s.letters in
+      ap (λ n. comes_next (script_of scripts p) n a) (sym (s.seen p (al.below a p la own))) ∙ sym (s.ready.next a p (omega arith)) ∙ k.same p ∙ own)
 
   -- an enabled letter is complete
   enabled-complete : (places : List ℕ) (sets : List Procs) (word : List ℕ) (a : ℕ) → Stands alphabet scripts places sets word → a < length alphabet.letters →
@@ -90,10 +90,10 @@ module _ (alphabet : DistributedAlphabet) (scripts : List (List ℕ)) (al : IsAl
       let l = k.letter in
       least-is (is_enabled (loc_of alphabet) (script_of scripts) word) (length alphabet.letters) a l
       (λ b lb.
-        elim (cases_Bool (is_enabled (loc_of alphabet) (script_of scripts) word b)) [
-          | inl on ↦ absurd (k.below b lb (enabled-complete places sets word b s (omega arith) on))
-          | inr off ↦ off
-        ])
+      elim (cases_Bool (is_enabled (loc_of alphabet) (script_of scripts) word b)) [
+        | inl on ↦ absurd (k.below b lb (enabled-complete places sets word b s (omega arith) on))
+        | inr off ↦ off
+      ])
       (complete-enabled places sets word a s l k.complete)
 
   -- the loop begins
@@ -135,8 +135,8 @@ module _ (alphabet : DistributedAlphabet) (scripts : List (List ℕ)) (al : IsAl
             ];
         ready = ready;
         same = s.same
-        ∙ from-step loc (length alphabet.letters) (script_of scripts) (total (script_of scripts) alphabet.processes - length word)
-        (total (script_of scripts) alphabet.processes - length (word ++ a ∷ [])) word a (least-next places sets word a s k) k.letter (omega arith);
+            ∙ from-step loc (length alphabet.letters) (script_of scripts) (total (script_of scripts) alphabet.processes - length word)
+            (total (script_of scripts) alphabet.processes - length (word ++ a ∷ [])) word a (least-next places sets word a s k) k.letter (omega arith);
       }
 
   -- while a letter is fired, there is room in the scripts
@@ -153,38 +153,37 @@ module _ (alphabet : DistributedAlphabet) (scripts : List (List ℕ)) (al : IsAl
       word ≡ weave (loc_of alphabet) (length alphabet.letters) alphabet.processes (script_of scripts)
   stands-end places sets word s none =
       let e = least-none (is_enabled (loc_of alphabet) (script_of scripts) word) (length alphabet.letters) (λ b lb.
-        elim (cases_Bool (is_enabled (loc_of alphabet) (script_of scripts) word b)) [
-          | inl on ↦ absurd (none.none b lb (enabled-complete places sets word b s lb on))
-          | inr off ↦ off
-        ]) in
+      elim (cases_Bool (is_enabled (loc_of alphabet) (script_of scripts) word b)) [
+        | inl on ↦ absurd (none.none b lb (enabled-complete places sets word b s lb on))
+        | inr off ↦ off
+      ]) in
       sym (s.same ∙ from-end (loc_of alphabet) (length alphabet.letters) (script_of scripts) (total (script_of scripts) alphabet.processes - length word) word (omega arith))
 
   -- the word weaves the scripts exactly if each is used up
   pub stands-whole : (places : List ℕ) (sets : List Procs) (word : List ℕ) → Stands alphabet scripts places sets word →
       (((p : ℕ) → p < length scripts → slice_index places p ≡ length (script_of scripts p)) ↔ Weaves (loc_of alphabet) (length alphabet.letters) (script_of scripts) word)
-  stands-whole places sets word s =
-      (
-        λ used. record {
-          word = s.fits.word;
-          whole = λ p.
-              let k = s.fits.prefix p in
-              let e = ap length k.1 in
-              let l = length-append (projection (loc_of alphabet) p word) k.0 in
-              let n = fit.processes in
-              elim (cases_lt p (length scripts)) [
-                | inl lt ↦
-                    let u = used p lt in
-                    let o = s.seen p (omega arith) in
-                    let none : k.0 ≡ [] = length-none k.0 (omega arith) in
-                    sym (append-nil (projection (loc_of alphabet) p word)) ∙ ap (λ r. projection (loc_of alphabet) p word ++ r) (sym none) ∙ k.1
-                | inr ge ↦
-                    let past : length (script_of scripts p) ≡ 0 = ap length (get_or_past scripts p [] ge) in
-                    let none : k.0 ≡ [] = length-none k.0 (omega arith) in
-                    sym (append-nil (projection (loc_of alphabet) p word)) ∙ ap (λ r. projection (loc_of alphabet) p word ++ r) (sym none) ∙ k.1
-              ];
-        },
-        λ weaves p l. let n = fit.processes in s.seen p (omega arith) ∙ ap length (weaves.whole p),
-      )
+  stands-whole places sets word s = (
+    λ used. record {
+      word = s.fits.word;
+      whole = λ p.
+          let k = s.fits.prefix p in
+          let e = ap length k.1 in
+          let l = length-append (projection (loc_of alphabet) p word) k.0 in
+          let n = fit.processes in
+          elim (cases_lt p (length scripts)) [
+            | inl lt ↦
+                let u = used p lt in
+                let o = s.seen p (omega arith) in
+                let none : k.0 ≡ [] = length-none k.0 (omega arith) in
+                sym (append-nil (projection (loc_of alphabet) p word)) ∙ ap (λ r. projection (loc_of alphabet) p word ++ r) (sym none) ∙ k.1
+            | inr ge ↦
+                let past : length (script_of scripts p) ≡ 0 = ap length (get_or_past scripts p [] ge) in
+                let none : k.0 ≡ [] = length-none k.0 (omega arith) in
+                sym (append-nil (projection (loc_of alphabet) p word)) ∙ ap (λ r. projection (loc_of alphabet) p word ++ r) (sym none) ∙ k.1
+          ];
+    },
+    λ weaves p l. let n = fit.processes in s.seen p (omega arith) ∙ ap length (weaves.whole p),
+  )
     where
       length-none : (xs : List ℕ) → length xs ≡ 0 → xs ≡ []
       length-none [] h = refl

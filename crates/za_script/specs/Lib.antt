@@ -1,7 +1,7 @@
 pub mod Inside
 pub mod Scripts
 pub mod ScriptLists
-pub mod Looms
-pub mod Wovens
+pub mod Weaving
+pub mod Woven
 pub mod Answer
 pub mod Laws

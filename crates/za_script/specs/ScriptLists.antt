@@ -1,5 +1,5 @@
 -- What contracts see of scripts: the list of the scripts of all processes, in the order of their numbers.
-use Rattle.std.specs.Prelude.{◌≡◌, ℕ, ◌<◌, ◌≤◌, ◌==◌, Bool, not, IsTrue, List, [], length, slice_index_or, All, Option, Some, None, if◌then◌else◌}
+use Rattle.std.specs.Prelude.{◌≡◌, ℕ, ◌<◌, ◌≤◌, ◌==◌, not, IsTrue, List, [], length, slice_index_or, All, Option, Some, None, if◌then◌else◌}
 use Rattle.za_alpha.specs.declared.rows.TheConstants.{MOST_PROCESSES}
 use Rattle.za_alpha.specs.declared.word.Letter.{Letter}
 use Rattle.za_alpha.specs.Words.{has}

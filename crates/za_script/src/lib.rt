@@ -4,8 +4,8 @@
 mod answer;
 mod fault;
 mod laws;
-mod loom;
 mod scripts;
+mod weaving;
 mod woven;
 
 pub use answer::Answer;
@@ -13,3 +13,6 @@ pub use fault::{MOST_SCRIPT_LETTERS, ScriptFault};
 pub use laws::{answer_is_of_the_weave, weaving_is_confluent};
 pub use scripts::Scripts;
 pub use woven::{Woven, weave};
+
+#[cfg(test)]
+mod tests;

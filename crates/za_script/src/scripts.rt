@@ -46,7 +46,8 @@ fn are_letters_of(alphabet: &Alphabet, p: usize, letters: &[Letter]) -> bool
 }
 
 impl Scripts {
-    /// An empty script for each of `n` processes, 1 to 6. It keeps the allocator for their letters.
+    /// An empty script for each of `n` processes, 1 to 6. They keep the allocator for their letters.
+    /// `OutOfMemory` comes only where memory is refused.
     pub fn empty(alloc: Global, n: usize) -> Result<Scripts, OutOfMemory>
         requires some { 0 < n }
         requires few { n ≤ MOST_PROCESSES }
@@ -56,15 +57,12 @@ impl Scripts {
         for _ in 0..n {
             words.push(Word::new(alloc))?;
         }
-        Ok(Scripts {
-            words,
-            letters: 0,
-        })
+        Ok(Scripts { words, letters: 0 })
     }
 
     /// Appends a letter to the script of process `p`. It is refused as foreign where `p` is no
     /// process of the letter, and else as full where there are 65,536 letters already. After an
-    /// error the scripts are as they were.
+    /// error, memory that is refused among them, the scripts are as they were.
     pub fn add(&mut self, alphabet: &Alphabet, p: usize, a: Letter) -> Result<(), ScriptFault>
         requires process { p < length self.old }
         requires of_alphabet { p < alphabet.now.processes }
@@ -129,7 +127,7 @@ impl Scripts {
         true
     }
 
-    /// Equal scripts of their own.
+    /// Equal scripts of their own. `OutOfMemory` comes only where memory is refused.
     pub fn copy(&self) -> Result<Scripts, OutOfMemory>
         ensures { IfOk result (λ s. s ≡ self.now) }
     {

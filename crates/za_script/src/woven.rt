@@ -4,8 +4,8 @@ ghost use Rattle.za_alpha.specs.Alphabet.{loc_of};
 ghost use Rattle.za_script.specs.Scripts.{weave, Weaves};
 ghost use Rattle.za_script.specs.ScriptLists.{script_of, FitAlphabet};
 
-use crate::loom::Loom;
 use crate::scripts::Scripts;
+use crate::weaving::Weaving;
 use std::alloc::Global;
 use std::marker::Model;
 use za_alpha::{Alphabet, OutOfMemory, Word};
@@ -20,7 +20,7 @@ pub struct Woven {
 }
 
 impl Model for Woven {
-    ghost use Rattle.za_script.specs.Wovens.{WovenWord};
+    ghost use Rattle.za_script.specs.Woven.{WovenWord};
 
     ghost Value = { WovenWord };
 
@@ -52,8 +52,10 @@ impl Woven {
 }
 
 /// Weaves the scripts: fires the least letter that is next at all its processes, until none is. The
-/// letters that a process fires are its script's first ones, as many as its count says. The word is
-/// whole exactly if every script is used up, and then the word weaves the scripts.
+/// letters that a process fires are its script's first ones, as many as its count says. The result is
+/// whole exactly if every script is used up, which is exactly if the word weaves the scripts.
+/// A firing takes time in the order of the number of letters and of processes. `OutOfMemory` comes
+/// only where memory is refused.
 pub fn weave(alloc: Global, alphabet: &Alphabet, scripts: &Scripts) -> Result<Woven, OutOfMemory>
     requires { FitAlphabet alphabet.now scripts.now }
     ensures word { IfOk result (λ w. w.word ≡ weave (loc_of alphabet.now)
@@ -66,16 +68,16 @@ pub fn weave(alloc: Global, alphabet: &Alphabet, scripts: &Scripts) -> Result<Wo
     ensures whole { IfOk result (λ w. IsTrue w.whole ↔ Weaves (loc_of alphabet.now)
         (length alphabet.now.letters) (script_of scripts.now) w.word) }
 {
-    let mut loom = Loom::start(alloc, alphabet, scripts)?;
+    let mut weaving = Weaving::start(alloc, alphabet, scripts)?;
     let mut word = Word::new(alloc);
-    while let Some(a) = loom.least_enabled(alphabet) {
+    while let Some(a) = weaving.least_enabled(alphabet) {
         word.push(a)?;
-        loom.fire(alphabet, scripts, a);
+        weaving.fire(alphabet, scripts, a);
     }
-    let whole = loom.is_done(scripts);
+    let whole = weaving.is_done(scripts);
     Ok(Woven {
         word,
-        counts: loom.places,
+        counts: weaving.places,
         whole,
     })
 }

@@ -5,7 +5,7 @@ use Rattle.za_script.proofs.Standing.{Stands}
 use Rattle.za_script.proofs.woven.weave.Given as goal
 
 abbrev pub invariant-loop-a : goal.invariant-loop-a
-invariant-loop-a l = Stands l.alphabet l.scripts l.loom.places.items l.loom.sets.items l.word
+invariant-loop-a l = Stands l.alphabet l.scripts l.weaving.places.items l.weaving.sets.items l.word
 
 abbrev pub decreases-loop-a : goal.decreases-loop-a
 decreases-loop-a l = total (script_of l.scripts) l.alphabet.processes - length l.word

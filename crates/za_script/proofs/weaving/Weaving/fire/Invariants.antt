@@ -2,7 +2,7 @@ use Rattle.std.proofs.Common.{◌≡◌, vec_len}
 use Rattle.za_alpha.specs.Alphabet.{loc_of}
 use Rattle.za_script.specs.ScriptLists.{script_of}
 use Rattle.za_script.proofs.Firing.{IsFiring}
-use Rattle.za_script.proofs.loom.Loom.fire.Given as goal
+use Rattle.za_script.proofs.weaving.Weaving.fire.Given as goal
 
 abbrev pub invariant-loop-p : goal.invariant-loop-p
 invariant-loop-p l =

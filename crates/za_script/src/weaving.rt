@@ -1,10 +1,10 @@
-ghost use Rattle.std.specs.Prelude.{◌≡◌, ◌<◌, ◌≤◌, ◌+◌, ◌↔◌, ◌==◌, ◌&&◌, ◌||◌, ℕ, All, IsTrue, IfOk, IsSome, MatchOption, length, replicate, slice_index, vec_len, if◌then◌else◌};
+ghost use Rattle.std.specs.Prelude.{◌≡◌, ◌<◌, ◌≤◌, ◌+◌, ◌↔◌, ◌==◌, ◌&&◌, ◌||◌, ℕ, All, IsTrue, IfOk, MatchOption, length, replicate, slice_index, vec_len, if◌then◌else◌};
 ghost use Rattle.za_alpha.specs.Words.{has};
 ghost use Rattle.za_alpha.specs.Procs.{members, no_process};
 ghost use Rattle.za_alpha.specs.Alphabet.{loc_of, IsDistributed};
 ghost use Rattle.za_script.specs.Scripts.{comes_next};
 ghost use Rattle.za_script.specs.ScriptLists.{script_of, AreScripts, FitAlphabet};
-ghost use Rattle.za_script.specs.Looms.{set_at, IsReady, IsComplete, IsLeastComplete, NoneComplete};
+ghost use Rattle.za_script.specs.Weaving.{set_at, IsReady, IsComplete, IsLeastComplete, NoneComplete};
 
 use crate::scripts::Scripts;
 use std::alloc::Global;
@@ -13,7 +13,7 @@ use za_alpha::{Alphabet, Letter, OutOfMemory, Procs};
 /// Where a weaving stands: for each process the place in its script, and for each letter the set
 /// of the processes whose next letter it is.
 #[derive(Drop)]
-pub(crate) struct Loom {
+pub(crate) struct Weaving {
     pub(crate) places: Vec<usize>,
     pub(crate) sets: Vec<Procs>,
 }
@@ -25,9 +25,9 @@ fn are_same(one: Procs, other: Procs) -> bool
     one.0 == other.0
 }
 
-impl Loom {
+impl Weaving {
     /// Puts process `p` into the set of its next letter, if it has one.
-    fn announce(&mut self, scripts: &Scripts, p: usize)
+    fn mark_next(&mut self, scripts: &Scripts, p: usize)
         requires process { p < length scripts.now }
         requires place { p < vec_len self.old.places }
         requires small { p < 16 }
@@ -47,22 +47,26 @@ impl Loom {
     }
 
     /// The start of a weaving: each process at the first place of its script.
-    pub(crate) fn start(alloc: Global, alphabet: &Alphabet, scripts: &Scripts) -> Result<Loom, OutOfMemory>
+    pub(crate) fn start(
+        alloc: Global,
+        alphabet: &Alphabet,
+        scripts: &Scripts,
+    ) -> Result<Weaving, OutOfMemory>
         requires { FitAlphabet alphabet.now scripts.now }
-        ensures places { IfOk result (λ l. l.places.items ≡ replicate (length scripts.now) 0) }
-        ensures letters { IfOk result (λ l. vec_len l.sets ≡ length alphabet.now.letters) }
-        ensures ready { IfOk result (λ l. IsReady (script_of scripts.now) l.places.items l.sets.items) }
+        ensures places { IfOk result (λ w. w.places.items ≡ replicate (length scripts.now) 0) }
+        ensures letters { IfOk result (λ w. vec_len w.sets ≡ length alphabet.now.letters) }
+        ensures ready { IfOk result (λ w. IsReady (script_of scripts.now) w.places.items w.sets.items) }
         ensures alphabet { IfOk result (λ _. IsDistributed alphabet.now) }
         ensures scripts { IfOk result (λ _. AreScripts scripts.now) }
     {
-        let mut loom = Loom {
+        let mut weaving = Weaving {
             places: vec![in alloc; 0; scripts.processes()]?,
             sets: vec![in alloc; Procs::none(); alphabet.letters()]?,
         };
         for p in 0..scripts.processes() {
-            loom.announce(scripts, p);
+            weaving.mark_next(scripts, p);
         }
-        Ok(loom)
+        Ok(weaving)
     }
 
     /// The least letter that is next at all its processes.
@@ -101,7 +105,7 @@ impl Loom {
         for p in 0..scripts.processes() {
             if loc.has(p) {
                 self.places[p] += 1;
-                self.announce(scripts, p);
+                self.mark_next(scripts, p);
             }
         }
     }

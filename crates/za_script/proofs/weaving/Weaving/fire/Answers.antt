@@ -1,15 +1,15 @@
-use Rattle.std.proofs.Common.{◌≡◌, ◌<◌, ◌≤◌, ◌+◌, true, false, length, slice_index, set, sym, ap, subst, ◌∙◌, arith, vec_len, ◌&&◌, ◌||◌, ◌==◌}
+use Rattle.std.proofs.Common.{◌≡◌, ◌<◌, ◌+◌, true, length, slice_index, set, sym, ap, subst, ◌∙◌, arith, vec_len, ◌&&◌, ◌||◌, ◌==◌}
 use Rattle.std.proofs.lemmas.Grind.{get_or_default_zero}
 use Rattle.za_alpha.specs.Words.{has}
 use Rattle.za_alpha.specs.Procs.{members}
 use Rattle.za_alpha.specs.Alphabet.{loc_of}
 use Rattle.za_script.specs.Scripts.{comes_next}
 use Rattle.za_script.specs.ScriptLists.{script_of}
-use Rattle.za_script.specs.Looms.{set_at}
+use Rattle.za_script.specs.Weaving.{set_at}
 use Rattle.za_script.proofs.Totals.{length-le-total}
 use Rattle.za_script.proofs.Firing.{place-below, IsFiring, firing-skip, firing-move}
-use Rattle.za_script.proofs.loom.Loom.fire.Goals as goal
-use Rattle.za_script.proofs.loom.Loom.fire.Goals.{then-has, else-has}
+use Rattle.za_script.proofs.weaving.Weaving.fire.Goals as goal
+use Rattle.za_script.proofs.weaving.Weaving.fire.Goals.{then-has, else-has}
 
 pub overflow_add-index_mut : goal.overflow_add-index_mut
 overflow_add-index_mut c =
@@ -41,16 +41,16 @@ loop-p-preserved c =
       | then-has w ↦
           let now = w.index_mut-then-has.result.now in
           let here : now ≡ slice_index places n = w.index_mut-then-has.ensures.value ∙ get_or_default_zero places n now inside in
-          let more = w.announce.new.self.sets.items in
-          let same = w.announce.ensures.letters in
+          let more = w.mark_next.new.self.sets.items in
+          let same = w.mark_next.ensures.letters in
           let k = firing-move scripts loc old places sets more n c.loop-p.invariant.firing (own ∙ w.if-has.true) inside (omega arith)
           (λ a q l.
-            w.announce.ensures.joined a q (omega arith) ∙ ap (λ v. has (set_at sets a) q || (q == n && comes_next (scripts n) (slice_index (set places n (v + 1)) n) a)) here) in
+          w.mark_next.ensures.joined a q (omega arith) ∙ ap (λ v. has (set_at sets a) q || (q == n && comes_next (scripts n) (slice_index (set places n (v + 1)) n) a)) here) in
           record {
             letters = ap (λ l. vec_len l.sets) w.self-is ∙ same ∙ c.loop-p.invariant.letters;
             firing =
                 subst (λ l. IsFiring scripts loc old l.places.items l.sets.items (n + 1)) (sym w.self-is)
-                (subst (λ xs. IsFiring scripts loc old xs more (n + 1)) (sym (w.announce.ensures.places ∙ ap (λ v. set places n (v + 1)) here)) k);
+                (subst (λ xs. IsFiring scripts loc old xs more (n + 1)) (sym (w.mark_next.ensures.places ∙ ap (λ v. set places n (v + 1)) here)) k);
           }
       | else-has w ↦
           record {

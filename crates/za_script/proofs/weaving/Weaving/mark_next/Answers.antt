@@ -1,6 +1,6 @@
-use Rattle.std.proofs.Common.{ℕ, ◌<◌, vec_len, ◌∙◌, arith}
+use Rattle.std.proofs.Common.{◌<◌, vec_len, ◌∙◌, arith}
 use Rattle.za_script.proofs.LetterLists.{letter-of}
-use Rattle.za_script.proofs.loom.Loom.announce.Goals as goal
+use Rattle.za_script.proofs.weaving.Weaving.mark_next.Goals as goal
 
 pub index-requires : goal.index-requires
 index-requires c =

@@ -3,7 +3,7 @@ use Rattle.std.proofs.lemmas.Grind.{common_steps}
 use Rattle.za_alpha.specs.Words.{has}
 use Rattle.za_alpha.specs.Procs.{members, no_process}
 use Rattle.za_alpha.specs.Alphabet.{loc_of}
-use Rattle.za_script.proofs.loom.Loom.least_enabled.Goals as goal
+use Rattle.za_script.proofs.weaving.Weaving.least_enabled.Goals as goal
 
 pub returns-then-are_same : goal.returns-then-are_same
 returns-then-are_same c =

@@ -1,6 +1,6 @@
 use Rattle.std.proofs.Common.{◌≡◌, ℕ, ◌<◌, length, slice_index}
 use Rattle.za_script.specs.ScriptLists.{script_of}
-use Rattle.za_script.proofs.loom.Loom.is_done.Given as goal
+use Rattle.za_script.proofs.weaving.Weaving.is_done.Given as goal
 
 abbrev pub invariant-loop-p : goal.invariant-loop-p
 invariant-loop-p l = (q : ℕ) → q < l.p → slice_index l.self.places.items q ≡ length (script_of l.scripts q)

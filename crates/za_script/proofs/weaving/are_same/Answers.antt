@@ -2,7 +2,7 @@ use Rattle.std.proofs.Common.{arith, ap, eqb-true, eq-eqb}
 use Rattle.za_alpha.specs.Words.{has}
 use Rattle.za_alpha.specs.Procs.{members}
 use Rattle.za_alpha.proofs.Members.{members-same}
-use Rattle.za_script.proofs.loom.are_same.Goals as goal
+use Rattle.za_script.proofs.weaving.are_same.Goals as goal
 
 pub returns : goal.returns
 returns c =
