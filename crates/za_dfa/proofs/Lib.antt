@@ -5,3 +5,4 @@ pub mod CellLemmas
 pub mod TableLemmas
 pub mod DiamondLemmas
 pub mod RoundTrip
+pub mod Examples

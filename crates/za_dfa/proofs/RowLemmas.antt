@@ -1,9 +1,9 @@
 -- What follows where rows have no fault.
-use Rattle.std.proofs.Common.{◌≡◌, ℕ, ◌<◌, ◌≤◌, Bool, true, false, ◌&&◌, not, List, [], ◌∷◌, ◌++◌, Option, Some, None, refl, arith}
+use Rattle.std.proofs.Common.{◌≡◌, ℕ, ◌<◌, ◌≤◌, false, ◌&&◌, not, List, [], None, arith}
 use Rattle.std.specs.Prelude.{nat_lt, nat_le}
 use Rattle.std.proofs.lemmas.Bool.{not-false}
 use Rattle.std.proofs.lemmas.Bool.Decides.{nat_tests}
-use Rattle.za_alpha.proofs.RowLemmas.{none_of_cond, none_of_or}
+use Rattle.za_alpha.proofs.RowLemmas.{none_of_cond}
 use Rattle.za_dfa.specs.declared.rows.Row.{Row}
 use Rattle.za_dfa.specs.declared.rows.TheConstants.{MOST_STATES}
 use Rattle.za_dfa.specs.Rows.{has_other, row_fault, rows_fault, dfa_fault}

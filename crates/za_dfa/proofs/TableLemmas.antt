@@ -1,11 +1,10 @@
 -- What a complete table gives, and that the completed table of right rows is one.
-use Rattle.std.proofs.Common.{◌≡◌, ℕ, ◌+◌, ◌*◌, ◌/◌, ◌%◌, ◌<◌, ◌≤◌, Bool, true, false, cond, List, [], ◌∷◌, ◌++◌, length, get_or, map, Option, Some, None, refl, sym, ap, subst, ◌∙◌, arith, length-append}
-use Rattle.std.specs.Prelude.{All, IfSome, is_some, unwrap_or, nat_lt}
+use Rattle.std.proofs.Common.{◌≡◌, ℕ, ◌+◌, ◌*◌, ◌/◌, ◌%◌, ◌<◌, ◌≤◌, Bool, true, false, ◌&&◌, cond, List, [], ◌∷◌, ◌++◌, length, Option, Some, None, refl, sym, ap, subst, ◌∙◌, arith, length-append}
+use Rattle.std.specs.Prelude.{IfSome, is_some, unwrap_or, nat_lt}
 use Rattle.std.specs.List.{list_all, range_with_len}
-use Rattle.std.proofs.lemmas.Bool.{cases_Bool}
 use Rattle.std.proofs.lemmas.Bool.Decides.{nat_tests}
 use Rattle.std.proofs.lemmas.List.FromFn.{get_or-map-range_with_len, length-map-range_with_len}
-use Rattle.std.proofs.lemmas.Nat.{mul-add-lt}
+use Rattle.std.proofs.lemmas.Nat.{div-mul-add, mod-mul-add, mul-add-lt}
 use Rattle.za_alpha.specs.Alphabet.{DistributedAlphabet, IsDistributed}
 use Rattle.za_alpha.proofs.RowLemmas.{none_of_or}
 use Rattle.za_dfa.specs.declared.rows.Row.{Row}
@@ -58,6 +57,28 @@ completed_below letters states rows i none inside = below (is_whole states lette
         let there = range_elim (λ a. is_some (target_in rows (i / letters) a)) letters (i % letters) row at.1 in
         target_there (target_in rows (i / letters) (i % letters)) states there (target_below states [] rows (i / letters) (i % letters) none)
     below false some inside = target_or_added (target_in rows (i / letters) (i % letters)) states (target_below states [] rows (i / letters) (i % letters) none)
+
+-- right rows have none for the added state, which so leads to itself
+pub no_target_of_added : (states : ℕ) (before rows : List Row) (a : ℕ) → rows_fault states before rows ≡ None → target_in rows states a ≡ None
+no_target_of_added states before [] a none = refl
+no_target_of_added states before (row ∷ rows) a none =
+    let parts = none_of_or (row_fault states before row) (rows_fault states (before ++ row ∷ []) rows) none in
+    let below = (right_row states before row parts.0).from_below in
+    let other : is_at states a row ≡ false = grind (arith, nat_tests) in
+    ap (λ here. cond here (Some row.to) (target_in rows states a)) other ∙ no_target_of_added states (before ++ row ∷ []) rows a parts.1
+
+-- in the completed table a letter leads to the target of its row, and where there is none to the added state
+pub step_of_completed : (alphabet : DistributedAlphabet) (states start : ℕ) (accepting : List Bool) (rows : List Row) (q a : ℕ) → q < completed_states states (length alphabet.letters) rows → a < length alphabet.letters →
+    step_of (completed alphabet states start accepting rows) q a ≡ unwrap_or (target_in rows q a) states
+step_of_completed alphabet states start accepting rows q a hq ha =
+    let letters = length alphabet.letters in
+    let total = completed_states states letters rows in
+    let f : ℕ → ℕ = λ i. unwrap_or (target_in rows (i / letters) (i % letters)) states in
+    let inside : q * letters + a < total * letters = let cell = mul-add-lt q letters a total hq ha in omega arith in
+    let here : (nat_lt q total && nat_lt a letters) ≡ true = grind (arith, nat_tests) in
+    let at : f (q * letters + a) ≡ unwrap_or (target_in rows q a) states = rw (div-mul-add q letters a ha, mod-mul-add q letters a ha) refl in
+    ap (λ known. cond known (target_at (completed alphabet states start accepting rows) q a) q) here
+    ∙ get_or-map-range_with_len f 0 (total * letters) (q * letters + a) (q * letters + a) 0 inside (omega arith) ∙ at
 
 accepting_all : (whole : Bool) (accepting : List Bool) (states : ℕ) → length accepting ≡ states → length (cond whole accepting (accepting ++ false ∷ [])) ≡ cond whole states (states + 1)
 accepting_all true accepting states size = size

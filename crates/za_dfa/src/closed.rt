@@ -1,4 +1,4 @@
-ghost use Rattle.std.specs.Prelude.{◌≡◌, ℕ, ◌<◌, ◌↔◌, IsTrue, MatchBool, MatchResult, length};
+ghost use Rattle.std.specs.Prelude.{◌≡◌, ◌<◌, ◌↔◌, IsTrue, MatchBool, MatchResult, length};
 ghost use Rattle.za_alpha.specs.Alphabet.{loc_of};
 ghost use Rattle.za_dfa.specs.Automata.{HasDiamonds};
 ghost use Rattle.za_dfa.specs.Diamonds.{IsDiamond, HasDiamondsBelow, HasDiamondsAt, BreaksDiamond};
@@ -84,7 +84,8 @@ fn has_diamonds(dfa: &Dfa) -> bool
 }
 
 impl Closed {
-    /// The DFA as one with all diamonds. It is handed back exactly where a diamond is broken.
+    /// The DFA as one whose diamonds are all there. It is handed back exactly where one is broken: a
+    /// state from which two independent letters lead to two states, by their order.
     pub fn new(dfa: Dfa) -> Result<Closed, Dfa>
         ensures { MatchResult result
             (λ closed. (closed ≡ dfa) × HasDiamonds (loc_of dfa.alphabet) (automaton_of dfa))

@@ -1,6 +1,5 @@
-ghost use Rattle.std.specs.Prelude.{◌≡◌, ℕ, ◌<◌, ◌∷◌, ◌++◌, [], All, Bool, false, None, length, nat_lt, slice_index_or, unwrap_or, MatchResult, IfOk, if◌then◌else◌};
+ghost use Rattle.std.specs.Prelude.{◌≡◌, ◌<◌, ◌∷◌, ◌++◌, [], All, false, length, nat_lt, unwrap_or, MatchResult, IfOk, if◌then◌else◌};
 ghost use Rattle.za_alpha.specs.Words.{IsWord};
-ghost use Rattle.za_alpha.specs.Letters.{numbers};
 ghost use Rattle.za_dfa.specs.Automata.{walk, is_accepted};
 ghost use Rattle.za_dfa.specs.Rows.{dfa_fault, completed};
 ghost use Rattle.za_dfa.specs.Tables.{step_of, accepts_at, automaton_of, IsComplete};
@@ -34,7 +33,8 @@ impl Model for Dfa {
 
 /// Which states accept: the given ones, and none that is added.
 fn accepting_of(mut accepting: Vec<bool>, states: usize) -> Result<Vec<bool>, OutOfMemory>
-    ensures { IfOk result (λ all. all.items ≡ (if nat_lt (length accepting.items) states then accepting.items ++ false ∷ [] else accepting.items)) }
+    ensures { let given = accepting.items in
+        IfOk result (λ all. all.items ≡ (if nat_lt (length given) states then given ++ false ∷ [] else given)) }
 {
     if accepting.len() < states {
         accepting.push(false)?;
@@ -43,10 +43,11 @@ fn accepting_of(mut accepting: Vec<bool>, states: usize) -> Result<Vec<bool>, Ou
 }
 
 impl Dfa {
-    /// The table of the rows over the alphabet, with states from 0 on. `accepting` says of each
+    /// The table of the rows over the alphabet, for states `0..states`. `accepting` says of each
     /// state whether it accepts. An equal row given again changes nothing. If some state and letter
-    /// have no row, one rejecting state with number `states` is added, to which they lead, and which
-    /// leads to itself. The first fault is named, and of the rows the first wrong one.
+    /// have no row, one rejecting state with number `states` is added: all missing rows lead to it,
+    /// and it leads to itself. The first fault is named, of the rows that of the first wrong one.
+    /// All is tested before memory is asked for. After an error the alphabet is dropped.
     pub fn complete(
         alloc: Global,
         alphabet: Alphabet,
@@ -58,7 +59,8 @@ impl Dfa {
         requires known_letters { All (λ (row : Row). row.letter.0 < length alphabet.letters) rows.now }
         requires each_state { length accepting.items ≡ states }
         ensures { MatchResult result
-            (λ d. (dfa_fault states start rows.now ≡ None) × (d ≡ completed alphabet states start accepting.items rows.now))
+            (λ d. (dfa_fault states start rows.now ≡ None)
+            × (d ≡ completed alphabet states start accepting.items rows.now))
             (λ e. e ≡ unwrap_or (dfa_fault states start rows.now) DfaFault.OutOfMemory) }
     {
         let table = table_of(alloc, alphabet.letters(), states, start, rows)?;

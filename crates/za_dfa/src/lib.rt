@@ -1,5 +1,6 @@
 //! Deterministic automata over a distributed alphabet: complete tables, words walked through them,
-//! and the tables in which independent letters lead to the same state in either order.
+//! and the tables in which independent letters lead to the same state in either order. Making a
+//! table takes memory, and nothing else does.
 #![tactic(auto)]
 
 mod closed;

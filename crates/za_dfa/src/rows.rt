@@ -1,4 +1,4 @@
-ghost use Rattle.std.specs.Prelude.{◌≡◌, ℕ, ◌+◌, ◌*◌, ◌<◌, ◌≤◌, ◌++◌, ◌∷◌, [], All, map, length, slice_set, is_some, unwrap_or, MatchResult, IfOk, IfNone};
+ghost use Rattle.std.specs.Prelude.{◌≡◌, ◌+◌, ◌*◌, ◌<◌, ◌≤◌, ◌++◌, ◌∷◌, [], All, map, length, slice_set, is_some, unwrap_or, MatchResult, IfOk, IfNone};
 ghost use Rattle.std.specs.List.{list_all};
 ghost use Rattle.za_dfa.specs.Rows.{has_other, row_fault, rows_fault, dfa_fault, completed_states, completed_targets};
 ghost use Rattle.za_dfa.specs.Cells.{is_other, AreEntered, states_of, targets_of};
@@ -13,7 +13,7 @@ pub const MOST_STATES: usize = 32;
 /// How many pairs of a state and a letter there are at the limits.
 const CELLS: usize = (MOST_STATES + 1) * MOST_LETTERS;
 
-/// A row of a table: where a letter leads from a state.
+/// A row of a table: a letter leads from one state to another. States count from 0.
 #[derive(Clone, Copy, Debug, PartialEq, Eq)]
 pub struct Row {
     pub from: u32,
@@ -86,7 +86,8 @@ fn write_target(cells: &mut [Option<u8>], letters: usize, states: u32, row: &Row
     requires to { row.now.to < states }
     requires few_states { states ≤ MOST_STATES }
     requires room { states * letters ≤ length cells.old }
-    ensures { cells.new ≡ slice_set cells.old (row.now.from * letters + row.now.letter.0) (Some row.now.to) }
+    ensures { let cell = row.now.from * letters + row.now.letter.0 in
+        cells.new ≡ slice_set cells.old cell (Some row.now.to) }
 {
     cells[row.from as usize * letters + row.letter.0 as usize] = Some(row.to as u8);
 }
@@ -186,7 +187,9 @@ fn completed(
     requires few_states { states ≤ MOST_STATES }
     requires few_letters { letters ≤ MOST_LETTERS }
     requires room { (states + 1) * letters ≤ length cells.now }
-    ensures { IfOk result (λ table. (table.states ≡ states_of cells.now letters states) × (table.targets.items ≡ targets_of cells.now letters states)) }
+    ensures { IfOk result (λ table.
+        (table.states ≡ states_of cells.now letters states)
+        × (table.targets.items ≡ targets_of cells.now letters states)) }
 {
     let total = if are_whole(&cells[..states * letters]) {
         states
@@ -211,7 +214,10 @@ pub(crate) fn table_of(
     requires few_letters { letters ≤ MOST_LETTERS }
     requires known_letters { All (λ (row : Row). row.letter.0 < letters) rows.now }
     ensures { MatchResult result
-        (λ table. (dfa_fault states start rows.now ≡ None) × (table.states ≡ completed_states states letters rows.now) × (table.targets.items ≡ completed_targets states letters rows.now))
+        (λ table.
+        (dfa_fault states start rows.now ≡ None)
+        × (table.states ≡ completed_states states letters rows.now)
+        × (table.targets.items ≡ completed_targets states letters rows.now))
         (λ e. e ≡ unwrap_or (dfa_fault states start rows.now) DfaFault.OutOfMemory) }
 {
     let mut cells = [None; CELLS];

@@ -127,6 +127,9 @@ fn even_numbers_of_a_are_accepted_and_closed(rt: HostRuntime) -> Result<(), Fail
     ] {
         assert_eq!(rt; accepts(&rt, &dfa, letters)?, accepted, "at {letters:?}");
     }
+    assert_eq!(rt; dfa.start(), 0);
+    assert!(rt; is_word(&[1, 0], dfa.alphabet().letters()));
+    assert_eq!(rt; dfa.run(1, &word_of(rt.alloc(), &[1, 0])?), 0);
     let closed = Closed::new(dfa).ok().expect(&rt, "closed");
     assert_eq!(rt; closed.dfa().states(), 2);
     Ok(())

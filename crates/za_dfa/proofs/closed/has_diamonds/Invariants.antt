@@ -1,7 +1,6 @@
-use Rattle.std.proofs.Common.{ℕ, ◌<◌, IsTrue}
-use Rattle.za_alpha.specs.Words.{independent}
+use Rattle.std.proofs.Common.{ℕ, ◌<◌}
 use Rattle.za_alpha.specs.Alphabet.{loc_of}
-use Rattle.za_dfa.specs.Diamonds.{IsDiamond, HasDiamondsBelow, HasDiamondsAt}
+use Rattle.za_dfa.specs.Diamonds.{HasDiamondsAt}
 use Rattle.za_dfa.specs.Tables.{automaton_of}
 use Rattle.za_dfa.proofs.closed.has_diamonds.Given as goal
 

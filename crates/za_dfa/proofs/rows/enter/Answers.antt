@@ -1,4 +1,4 @@
-use Rattle.std.proofs.Common.{sym, ◌∙◌, subst, arith, List, Option, ℕ, ◌++◌, ◌∷◌, []}
+use Rattle.std.proofs.Common.{sym, ◌∙◌, subst, List, Option, ℕ, ◌++◌, ◌∷◌, []}
 use Rattle.za_dfa.specs.Cells.{AreEntered}
 use Rattle.za_dfa.proofs.RowLemmas.{right_row}
 use Rattle.za_dfa.proofs.CellLemmas.{entered_more, cell_inside}

@@ -1,4 +1,4 @@
-use Rattle.std.proofs.Common.{◌≡◌, ◌*◌, ◌≤◌, ◌<◌, ◌+◌, length, sym, ◌∙◌, arith, None}
+use Rattle.std.proofs.Common.{◌≡◌, ◌*◌, ◌≤◌, ◌+◌, length, sym, ◌∙◌, arith, None}
 use Rattle.std.proofs.Math.Nat.{mul-le-mul}
 use Rattle.za_dfa.specs.declared.rows.TheConstants.{CELLS, MOST_STATES}
 use Rattle.za_dfa.specs.Rows.{dfa_fault}

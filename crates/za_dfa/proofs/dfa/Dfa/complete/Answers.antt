@@ -1,4 +1,4 @@
-use Rattle.std.proofs.Common.{sym, ap, ◌∙◌}
+use Rattle.std.proofs.Common.{ap, ◌∙◌}
 use Rattle.za_dfa.specs.Rows.{completed_states, completed_targets}
 use Rattle.za_dfa.proofs.TableLemmas.{complete_of_parts}
 use Rattle.za_dfa.proofs.dfa.Dfa.complete.Goals as goal
