@@ -1,0 +1,57 @@
+-- What a run of the program does, from its source to its sink.
+use Rattle.std.specs.Prelude.{◌≡◌, ℕ, ◌<◌, ◌≤◌, ◌+◌, List, [], ◌∷◌, length, take, codes, Option}
+use Rattle.std.specs.Io.KnownBytes.{Consumes, Appends, IsAtEnd}
+use Rattle.za_base.specs.Read.{Took}
+use Rattle.za_base.specs.Fault.{Rises}
+use Rattle.zielonka.specs.declared.run.TheConstants.{MOST_BYTES}
+use Rattle.zielonka.specs.Output.{IsOutput, usage_text, too_long_text}
+
+-- the source and the sink at one moment: the bytes left and written, where they tell them, and their counts of faults
+pub record Ends : Type 0 where
+  pub left : Option (List ℕ)
+  pub read_faults : ℕ
+  pub written : Option (List ℕ)
+  pub write_faults : ℕ
+
+-- the words are the one word `solo`
+abbrev pub AreSolo : List (List ℕ) → Type 0
+AreSolo words = words ≡ codes "solo" ∷ []
+
+-- the source was not read
+abbrev pub ReadNothing : Ends → Ends → Type 0
+ReadNothing old new = (new.left ≡ old.left) × (new.read_faults ≡ old.read_faults)
+
+-- these are all the bytes up to the source's end, and not too many
+abbrev pub ReadAll : Ends → Ends → List ℕ → Type 0
+ReadAll old new bytes = (length bytes ≤ MOST_BYTES) × Consumes old.left new.left bytes × IsAtEnd new.left
+
+-- one byte more than the limit was taken from the source
+abbrev pub ReadTooMany : Ends → Ends → Type 0
+ReadTooMany old new = Took old.left new.left (λ n. n ≡ MOST_BYTES + 1)
+
+-- nothing was written
+abbrev pub WroteNothing : Ends → Ends → Type 0
+WroteNothing old new = (new.written ≡ old.written) × (new.write_faults ≡ old.write_faults)
+
+-- a text was written whole, and the status is the one given; or a proper prefix of it, and then the sink's count of
+-- faults rose, and the status is 7
+pub data HasSaid (status : ℕ) (text : List ℕ) (written now : Option (List ℕ)) (before after : ℕ) : ℕ → Type 0 where
+  Whole : Appends written now text → HasSaid status text written now before after status
+  Part : (k : ℕ) → k < length text → Appends written now (take k text) → Rises before after → HasSaid status text written now before after 7
+
+-- the status and the text that are due
+pub data IsDue (words : List (List ℕ)) (old new : Ends) : ℕ → List ℕ → Type 0 where
+  Usage : ¬ AreSolo words → ReadNothing old new → IsDue words old new 2 usage_text
+  TooLong : AreSolo words → ReadTooMany old new → IsDue words old new 9 too_long_text
+  Said : (bytes : List ℕ) (status : ℕ) (text : List ℕ) → AreSolo words → ReadAll old new bytes → IsOutput bytes status text → IsDue words old new status text
+
+-- what a run with these words did, by the status that it ended with
+pub data HasRun (words : List (List ℕ)) (old new : Ends) : ℕ → Type 0 where
+  -- the text that is due was written whole
+  Wrote : (status : ℕ) (text : List ℕ) → IsDue words old new status text → Appends old.written new.written text → HasRun words old new status
+  -- the sink's count of faults rose after a proper prefix of the text that is due
+  WriteFault : (status k : ℕ) (text : List ℕ) → IsDue words old new status text → k < length text → Appends old.written new.written (take k text) → Rises old.write_faults new.write_faults → HasRun words old new 7
+  -- the source's count of faults rose
+  ReadFault : AreSolo words → Rises old.read_faults new.read_faults → WroteNothing old new → HasRun words old new 6
+  -- memory was refused
+  NoMemory : WroteNothing old new → HasRun words old new 8

@@ -1,0 +1,153 @@
+//! The text of an answer.
+
+ghost use Rattle.std.specs.Prelude.{◌≡◌, ◌<◌, ◌≤◌, ◌++◌, ◌∷◌, [], IfOk, OnOk, length, map};
+ghost use Rattle.std.specs.List.{range_with_len};
+ghost use Rattle.za_alpha.specs.Words.{IsWord};
+ghost use Rattle.za_alpha.specs.Letters.{numbers};
+ghost use Rattle.za_script.specs.ScriptLists.{FitAlphabet};
+ghost use Rattle.zielonka.specs.Lines.{spaced, line, text_of};
+ghost use Rattle.zielonka.specs.Answers.{IsWeave, answer_text, answer_word, bound_line, fired_line, process_line, process_words, stuck_lines, wait_words};
+
+use crate::text::{push_names, push_number, push_number_line, push_word};
+use std::alloc::Global;
+use za_alpha::{Alphabet, Letter, OutOfMemory};
+use za_script::{Answer, Scripts, Woven};
+
+/// The first word of an answer's text.
+fn word_of(answer: Answer) -> &'static [u8]
+    ensures { result.now ≡ answer_word answer }
+{
+    match answer {
+        Answer::Accept => b"accept",
+        Answer::Reject => b"reject",
+        Answer::Stuck => b"stuck",
+    }
+}
+
+/// The line of the bounds on event numbers and on records.
+fn push_bounds(text: &mut Vec<u8>, alphabet: &Alphabet) -> Result<(), OutOfMemory>
+    ensures { OnOk result (text.new.items ≡ text.old.items ++ line (bound_line alphabet.now)) }
+{
+    let n = alphabet.processes();
+    text.extend_from_slice(b"bound labels")?;
+    push_number(text, alphabet.letters() * (n.pow(3) + 1))?;
+    text.extend_from_slice(b" records")?;
+    push_number(text, n + 1)?;
+    text.push(b'\n')?;
+    Ok(())
+}
+
+/// What a process waits for after so many of its events: the next letter of its script, if there
+/// is one.
+fn push_wait(
+    text: &mut Vec<u8>,
+    alphabet: &Alphabet,
+    script: &[Letter],
+    fired: usize,
+) -> Result<(), OutOfMemory>
+    requires { IsWord (length alphabet.now.letters) (numbers script.now) }
+    ensures { OnOk result (text.new.items ≡ text.old.items ++ spaced (wait_words alphabet.now (numbers script.now) fired)) }
+{
+    if fired < script.len() {
+        push_word(text, b"waits")?;
+        push_word(text, alphabet.name(script[fired]))
+    } else {
+        push_word(text, b"ended")
+    }
+}
+
+/// The line of a process after so many of its events.
+fn push_process_words(
+    text: &mut Vec<u8>,
+    alphabet: &Alphabet,
+    script: &[Letter],
+    p: usize,
+    fired: usize,
+) -> Result<(), OutOfMemory>
+    requires { IsWord (length alphabet.now.letters) (numbers script.now) }
+    ensures { OnOk result (text.new.items ≡ text.old.items ++ line (process_words alphabet.now (numbers script.now) p fired)) }
+{
+    text.extend_from_slice(b"process")?;
+    push_number(text, p)?;
+    push_word(text, b"fired")?;
+    push_number(text, fired)?;
+    push_wait(text, alphabet, script, fired)?;
+    text.push(b'\n')?;
+    Ok(())
+}
+
+/// The line of a process where the scripts are stuck.
+fn push_process(
+    text: &mut Vec<u8>,
+    alphabet: &Alphabet,
+    scripts: &Scripts,
+    woven: &Woven,
+    p: usize,
+) -> Result<(), OutOfMemory>
+    requires fit { FitAlphabet alphabet.now scripts.now }
+    requires woven { IsWeave alphabet.now scripts.now woven.now }
+    requires process { p < alphabet.now.processes }
+    ensures { OnOk result (text.new.items ≡ text.old.items ++ line (process_line alphabet.now scripts.now woven.now.word p)) }
+{
+    let script = scripts.script(p).letters();
+    push_process_words(text, alphabet, script, p, woven.count(p))
+}
+
+/// The lines of all processes where the scripts are stuck.
+fn push_processes(
+    text: &mut Vec<u8>,
+    alphabet: &Alphabet,
+    scripts: &Scripts,
+    woven: &Woven,
+) -> Result<(), OutOfMemory>
+    requires fit { FitAlphabet alphabet.now scripts.now }
+    requires woven { IsWeave alphabet.now scripts.now woven.now }
+    ensures { OnOk result (text.new.items ≡ text.old.items ++ text_of (map (process_line alphabet.now scripts.now woven.now.word) (range_with_len 0 alphabet.now.processes))) }
+{
+    for p in 0..alphabet.processes() {
+        push_process(text, alphabet, scripts, woven, p)?;
+    }
+    Ok(())
+}
+
+/// The lines where the scripts are stuck: each process, and the word that fired.
+fn push_stuck(
+    text: &mut Vec<u8>,
+    alphabet: &Alphabet,
+    scripts: &Scripts,
+    woven: &Woven,
+) -> Result<(), OutOfMemory>
+    requires fit { FitAlphabet alphabet.now scripts.now }
+    requires woven { IsWeave alphabet.now scripts.now woven.now }
+    requires word { IsWord (length alphabet.now.letters) woven.now.word }
+    ensures { OnOk result (text.new.items ≡ text.old.items ++ text_of (stuck_lines alphabet.now scripts.now woven.now.word)) }
+{
+    push_processes(text, alphabet, scripts, woven)?;
+    text.extend_from_slice(b"trace")?;
+    push_names(text, alphabet, woven.word().letters())?;
+    text.push(b'\n')?;
+    Ok(())
+}
+
+/// The text of an answer to scripts, with their weave.
+pub(crate) fn answer_text(
+    alloc: Global,
+    alphabet: &Alphabet,
+    scripts: &Scripts,
+    woven: &Woven,
+    answer: Answer,
+) -> Result<Vec<u8>, OutOfMemory>
+    requires fit { FitAlphabet alphabet.now scripts.now }
+    requires woven { IsWeave alphabet.now scripts.now woven.now }
+    requires word { IsWord (length alphabet.now.letters) woven.now.word }
+    ensures { IfOk result (λ text. text.items ≡ answer_text alphabet.now scripts.now woven.now.word answer) }
+{
+    let mut text = Vec::from_slice(alloc, word_of(answer))?;
+    text.push(b'\n')?;
+    push_number_line(&mut text, b"fired", woven.word().len())?;
+    push_bounds(&mut text, alphabet)?;
+    if let Answer::Stuck = answer {
+        push_stuck(&mut text, alphabet, scripts, woven)?;
+    }
+    Ok(text)
+}

@@ -1,0 +1,17 @@
+//! The whole program over any source and any sink: what is read, what is answered, and what is
+//! written.
+#![tactic(auto)]
+
+mod answer;
+mod print;
+mod read;
+mod run;
+mod status;
+mod text;
+mod words;
+
+pub use run::{MOST_BYTES, plain};
+pub use status::{Outcome, Status};
+
+#[cfg(test)]
+mod tests;

@@ -1,0 +1,19 @@
+/// The number that the process ends with.
+///
+/// | Number | Meaning |
+/// |---|---|
+/// | 0, 1, 3 | accept, reject, stuck |
+/// | 2 | usage: the words are in no form |
+/// | 4 | the input is refused |
+/// | 6, 7 | a read, a write failed |
+/// | 8 | memory was refused |
+/// | 9 | the input has more than 1,048,576 bytes |
+/// | 10 | not built yet |
+#[derive(Clone, Copy, Debug, PartialEq, Eq)]
+pub struct Status(pub u8);
+
+/// How a run ended.
+#[derive(Clone, Copy, Debug, PartialEq, Eq)]
+pub struct Outcome {
+    pub status: Status,
+}
