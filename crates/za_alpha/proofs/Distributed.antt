@@ -14,7 +14,7 @@ use Rattle.za_alpha.specs.declared.alphabet.LetterRow.{LetterRow}
 use Rattle.za_alpha.specs.Words.{has}
 use Rattle.za_alpha.specs.Names.{is_name}
 use Rattle.za_alpha.specs.Procs.{members, no_process, with_process}
-use Rattle.za_alpha.specs.Rows.{row_fault, rows_fault, alphabet_fault, set_of, letter_of_row, alphabet_of_rows}
+use Rattle.za_alpha.specs.Rows.{letter_fault, letters_fault, alphabet_fault, set_of, letter_of_row, alphabet_of_rows}
 use Rattle.za_alpha.specs.Alphabet.{IsDistributed, procs_at, name_at}
 use Rattle.za_alpha.proofs.Members.{has-with, members-zero}
 use Rattle.za_alpha.proofs.RowLemmas.{none_of_or, IsRightRow, right_row, right_alphabet}
@@ -82,13 +82,13 @@ record RowAt (n : ℕ) (rows : List LetterRow) (a : ℕ) : Type 0 where
   pub name : name_at (map letter_of_row rows) a ≡ row.name.items
   pub loc : procs_at (map letter_of_row rows) a ≡ set_of row.procs.items
 
-row_at : (n : ℕ) (before rows : List LetterRow) → rows_fault n before rows ≡ None → (a : ℕ) → a < length rows → RowAt n rows a
+row_at : (n : ℕ) (before rows : List LetterRow) → letters_fault n before rows ≡ None → (a : ℕ) → a < length rows → RowAt n rows a
 row_at n before [] none a h = absurd (omega arith)
 row_at n before (row ∷ rows) none zero h =
-    let parts = none_of_or (row_fault n before row) (rows_fault n (before ++ row ∷ []) rows) none in
+    let parts = none_of_or (letter_fault n before row) (letters_fault n (before ++ row ∷ []) rows) none in
     record { row = row; before = before; right = right_row n before row parts.0; name = refl; loc = refl }
 row_at n before (row ∷ rows) none (suc a) h =
-    let parts = none_of_or (row_fault n before row) (rows_fault n (before ++ row ∷ []) rows) none in
+    let parts = none_of_or (letter_fault n before row) (letters_fault n (before ++ row ∷ []) rows) none in
     let r = row_at n (before ++ row ∷ []) rows parts.1 a (omega arith) in
     record { row = r.row; before = r.before; right = r.right; name = r.name; loc = r.loc }
 
@@ -105,22 +105,22 @@ none_right true b h = absurd (cc)
 none_right false b h = h
 
 -- no row before has the name of a later one
-fresh_later : (n : ℕ) (before rows : List LetterRow) → rows_fault n before rows ≡ None → (a : ℕ) → a < length rows → named_in before (name_at (map letter_of_row rows) a) ≡ false
+fresh_later : (n : ℕ) (before rows : List LetterRow) → letters_fault n before rows ≡ None → (a : ℕ) → a < length rows → named_in before (name_at (map letter_of_row rows) a) ≡ false
 fresh_later n before [] none a h = absurd (omega arith)
 fresh_later n before (row ∷ rows) none zero h =
-    let parts = none_of_or (row_fault n before row) (rows_fault n (before ++ row ∷ []) rows) none in (right_row n before row parts.0).fresh
+    let parts = none_of_or (letter_fault n before row) (letters_fault n (before ++ row ∷ []) rows) none in (right_row n before row parts.0).fresh
 fresh_later n before (row ∷ rows) none (suc a) h =
-    let parts = none_of_or (row_fault n before row) (rows_fault n (before ++ row ∷ []) rows) none in
+    let parts = none_of_or (letter_fault n before row) (letters_fault n (before ++ row ∷ []) rows) none in
     let name = name_at (map letter_of_row rows) a in
     let later : named_in (before ++ row ∷ []) name ≡ false = fresh_later n (before ++ row ∷ []) rows parts.1 a (omega arith) in
     none_left (named_in before name) (named_in (row ∷ []) name) (sym (list_any-append (λ (r : LetterRow). bytes_eq r.name.items name) before (row ∷ [])) ∙ later)
 
 -- two letters have two names
-apart_below : (n : ℕ) (before rows : List LetterRow) → rows_fault n before rows ≡ None → (a b : ℕ) → a < b → b < length rows → name_at (map letter_of_row rows) a ≢ name_at (map letter_of_row rows) b
+apart_below : (n : ℕ) (before rows : List LetterRow) → letters_fault n before rows ≡ None → (a b : ℕ) → a < b → b < length rows → name_at (map letter_of_row rows) a ≢ name_at (map letter_of_row rows) b
 apart_below n before [] none a b l h e = absurd (omega arith)
 apart_below n before (row ∷ rows) none zero zero l h e = absurd (omega arith)
 apart_below n before (row ∷ rows) none zero (suc b) l h e =
-    let parts = none_of_or (row_fault n before row) (rows_fault n (before ++ row ∷ []) rows) none in
+    let parts = none_of_or (letter_fault n before row) (letters_fault n (before ++ row ∷ []) rows) none in
     let name = name_at (map letter_of_row rows) b in
     let later : named_in (before ++ row ∷ []) name ≡ false = fresh_later n (before ++ row ∷ []) rows parts.1 b (omega arith) in
     let own : named_in (row ∷ []) name ≡ false =
@@ -129,7 +129,7 @@ apart_below n before (row ∷ rows) none zero (suc b) l h e =
     let same : bytes_eq row.name.items name ≡ true = (bytes_eq-Decides row.name.items name).1 e in cc
 apart_below n before (row ∷ rows) none (suc a) zero l h e = absurd (omega arith)
 apart_below n before (row ∷ rows) none (suc a) (suc b) l h e =
-    let parts = none_of_or (row_fault n before row) (rows_fault n (before ++ row ∷ []) rows) none in
+    let parts = none_of_or (letter_fault n before row) (letters_fault n (before ++ row ∷ []) rows) none in
     apart_below n (before ++ row ∷ []) rows parts.1 a b (omega arith) (omega arith) e
 
 first_process : (ps : List ℕ) → eqb (length ps) 0 ≡ false → (p : ℕ) × (has ps p ≡ true)

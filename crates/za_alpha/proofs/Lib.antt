@@ -4,3 +4,4 @@ pub mod RowLemmas
 pub mod Distributed
 pub mod Projections
 pub mod RoundTrip
+pub mod Least

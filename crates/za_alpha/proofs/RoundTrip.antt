@@ -1,5 +1,5 @@
 -- The rows that say an alphabet's letters make that alphabet.
-use Rattle.std.proofs.Common.{◌≡◌, ℕ, zero, suc, ◌+◌, ◌<◌, ◌≤◌, ◌^◌, Bool, true, false, ◌||◌, ◌&&◌, ◌==◌, eqb, not, cond, List, [], ◌∷◌, ◌++◌, length, get_or, map, None, refl, sym, ap, subst, ◌∙◌, arith, inl, inr, append_assoc, length-append}
+use Rattle.std.proofs.Common.{◌≡◌, ℕ, suc, ◌+◌, ◌<◌, ◌≤◌, ◌^◌, true, false, ◌&&◌, eqb, not, List, [], ◌∷◌, ◌++◌, length, get_or, map, None, refl, sym, ap, subst, ◌∙◌, arith, inl, inr, append_assoc, length-append}
 use Rattle.std.specs.Prelude.{nat_le, nat_lt}
 use Rattle.std.specs.Int.{bit_at}
 use Rattle.std.specs.List.{list_any}
@@ -14,7 +14,7 @@ use Rattle.za_alpha.specs.declared.alphabet.LetterRow.{LetterRow}
 use Rattle.za_alpha.specs.Words.{has}
 use Rattle.za_alpha.specs.Names.{is_name}
 use Rattle.za_alpha.specs.Procs.{members, no_process}
-use Rattle.za_alpha.specs.Rows.{row_fault, rows_fault, alphabet_fault, set_of, letter_of_row, alphabet_of_rows}
+use Rattle.za_alpha.specs.Rows.{letter_fault, letters_fault, alphabet_fault, set_of, letter_of_row, alphabet_of_rows}
 use Rattle.za_alpha.specs.Alphabet.{DistributedAlphabet, NamedLetter, IsDistributed, procs_at, name_at}
 use Rattle.za_alpha.proofs.Members.{has-members, members-same}
 use Rattle.za_alpha.proofs.Distributed.{has-set_of, set-small}
@@ -31,8 +31,8 @@ pub record SayAll (rows : List LetterRow) (letters : List NamedLetter) : Type 0 
 
 none_chain : (n : ℕ) (before : List LetterRow) (row : LetterRow) → is_name row.name.items ≡ true →
     list_any (λ (earlier : LetterRow). bytes_eq earlier.name.items row.name.items) before ≡ false → eqb (length row.procs.items) 0 ≡ false →
-    list_any (λ p. nat_le n p) row.procs.items ≡ false → row_fault n before row ≡ None
-unfolding row_fault
+    list_any (λ p. nat_le n p) row.procs.items ≡ false → letter_fault n before row ≡ None
+unfolding letter_fault
 none_chain n before row named fresh some there = rw (named, fresh, some, there) refl
 
 -- no earlier row has the name of the letter at a place, where names tell letters apart
@@ -85,7 +85,7 @@ letters_said (row ∷ rows) (l ∷ ls) h small =
     later row rows l ls a d h = record { name = h.name; procs = h.procs }
 
 module _ (alphabet : DistributedAlphabet) (whole : IsDistributed alphabet) where
-  none_from : (before rows : List LetterRow) → SayAll (before ++ rows) alphabet.letters → rows_fault alphabet.processes before rows ≡ None
+  none_from : (before rows : List LetterRow) → SayAll (before ++ rows) alphabet.letters → letters_fault alphabet.processes before rows ≡ None
   none_from before [] h = refl
   none_from before (row ∷ rows) h =
       let at : ℕ = length before in

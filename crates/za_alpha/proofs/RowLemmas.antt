@@ -10,7 +10,7 @@ use Rattle.std.specs.Str.{bytes_eq}
 use Rattle.za_alpha.specs.declared.alphabet.LetterRow.{LetterRow}
 use Rattle.za_alpha.specs.declared.alphabet.Entry.{Entry}
 use Rattle.za_alpha.specs.Names.{is_name}
-use Rattle.za_alpha.specs.Rows.{row_fault, rows_fault, alphabet_fault, HasSmallProcesses}
+use Rattle.za_alpha.specs.Rows.{letter_fault, letters_fault, alphabet_fault, HasSmallProcesses}
 use Rattle.za_alpha.specs.Alphabet.{procs_at, name_at, letter_of_entry}
 
 -- an if-chain gives none exactly where each test fails
@@ -44,8 +44,8 @@ not_false : (b : Bool) → not b ≡ false → b ≡ true
 not_false true h = refl
 not_false false h = absurd (cc)
 
-pub right_row : (n : ℕ) (before : List LetterRow) (row : LetterRow) → row_fault n before row ≡ None → IsRightRow n before row
-unfolding row_fault
+pub right_row : (n : ℕ) (before : List LetterRow) (row : LetterRow) → letter_fault n before row ≡ None → IsRightRow n before row
+unfolding letter_fault
 right_row n before row none =
     let named = none_of_cond (not (is_name row.name.items)) _ _ none in
     let fresh = none_of_cond (list_any (λ (r : LetterRow). bytes_eq r.name.items row.name.items) before) _ _ named.1 in
@@ -53,10 +53,10 @@ right_row n before row none =
     let there = none_of_cond (list_any (λ p. nat_le n p) row.procs.items) _ _ some.1 in
     record { named = not_false (is_name row.name.items) named.0; fresh = fresh.0; some = some.0; there = there.0 }
 
-rows_small : (n : ℕ) (before rows : List LetterRow) → n ≤ 16 → rows_fault n before rows ≡ None → AllByRecursion HasSmallProcesses rows
+rows_small : (n : ℕ) (before rows : List LetterRow) → n ≤ 16 → letters_fault n before rows ≡ None → AllByRecursion HasSmallProcesses rows
 rows_small n before [] h none = tt
 rows_small n before (row ∷ rows) h none =
-    let parts = none_of_or (row_fault n before row) (rows_fault n (before ++ row ∷ []) rows) none in
+    let parts = none_of_or (letter_fault n before row) (letters_fault n (before ++ row ∷ []) rows) none in
     let small = below_of_any n row.procs.items h (right_row n before row parts.0).there in
     (All-from_recursion (λ p. p < 16) row.procs.items small, rows_small n (before ++ row ∷ []) rows h parts.1)
 
@@ -66,7 +66,7 @@ pub record IsRightAlphabet (n : ℕ) (rows : List LetterRow) : Type 0 where
   pub few_processes : n ≤ 6
   pub some_letter : 1 ≤ length rows
   pub few_letters : length rows ≤ 32
-  pub rows_right : rows_fault n [] rows ≡ None
+  pub rows_right : letters_fault n [] rows ≡ None
 
 pub right_alphabet : (n : ℕ) (rows : List LetterRow) → alphabet_fault n rows ≡ None → IsRightAlphabet n rows
 right_alphabet n rows none =

@@ -25,8 +25,8 @@ abbrev pub alphabet_of_rows : ℕ → List LetterRow → DistributedAlphabet
 alphabet_of_rows processes rows = record { processes = processes; letters = map letter_of_row rows }
 
 -- the fault of a row after the rows before it: the first of its tests that fails
-unfoldable pub row_fault : ℕ → List LetterRow → LetterRow → Option AlphaFault
-row_fault processes before row =
+unfoldable pub letter_fault : ℕ → List LetterRow → LetterRow → Option AlphaFault
+letter_fault processes before row =
     let at = length before in
     if not (is_name row.name.items) then Some (BadName at)
     else (if list_any (λ (earlier : LetterRow). bytes_eq earlier.name.items row.name.items) before then Some (RepeatedName at)
@@ -34,16 +34,16 @@ row_fault processes before row =
     else (if list_any (λ p. nat_le processes p) row.procs.items then Some (NoSuchProcess at) else None)))
 
 -- the fault of the first wrong row
-abbrev pub rows_fault : ℕ → List LetterRow → List LetterRow → Option AlphaFault
-rows_fault processes before [] = None
-rows_fault processes before (row ∷ rows) = option_or (row_fault processes before row) (rows_fault processes (before ++ row ∷ []) rows)
+abbrev pub letters_fault : ℕ → List LetterRow → List LetterRow → Option AlphaFault
+letters_fault processes before [] = None
+letters_fault processes before (row ∷ rows) = option_or (letter_fault processes before row) (letters_fault processes (before ++ row ∷ []) rows)
 
 -- the first fault, if there is one
 abbrev pub alphabet_fault : ℕ → List LetterRow → Option AlphaFault
 alphabet_fault processes rows =
     if not (nat_le 1 processes && nat_le processes MOST_PROCESSES) then Some ProcessCount
     else (if not (nat_le 1 (length rows) && nat_le (length rows) MOST_LETTERS) then Some LetterCount
-    else rows_fault processes [] rows)
+    else letters_fault processes [] rows)
 
 -- each process of the row can be in a set of processes
 abbrev pub HasSmallProcesses : LetterRow → Type 0

@@ -4,7 +4,7 @@ ghost use Rattle.std.specs.Str.{bytes_eq};
 ghost use Rattle.za_alpha.specs.Words.{IsWord};
 ghost use Rattle.za_alpha.specs.Letters.{numbers};
 ghost use Rattle.za_alpha.specs.Names.{is_name_byte, begins_with_digit, is_name};
-ghost use Rattle.za_alpha.specs.Rows.{row_fault, alphabet_fault, set_of, letter_of_row, HasSmallProcesses};
+ghost use Rattle.za_alpha.specs.Rows.{letter_fault, alphabet_fault, set_of, letter_of_row, HasSmallProcesses};
 ghost use Rattle.za_alpha.specs.Alphabet.{letter_of_entry, name_at, place_of};
 
 use crate::alphabet::{Entry, LetterRow};
@@ -65,9 +65,9 @@ fn has_from(procs: &[u32], processes: usize) -> bool
 }
 
 /// The first test of a row that fails.
-#[tactic(auto, unfolding(crate::specs::Rows::row_fault))]
+#[tactic(auto, unfolding(crate::specs::Rows::letter_fault))]
 fn fault_of_row(processes: usize, before: &[LetterRow], row: &LetterRow) -> Option<AlphaFault>
-    ensures { result ≡ row_fault processes before.now row.now }
+    ensures { result ≡ letter_fault processes before.now row.now }
 {
     let at = before.len();
     if !is_letter_name(row.name.as_slice()) {

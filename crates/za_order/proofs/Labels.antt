@@ -17,7 +17,8 @@ use Rattle.za_alpha.proofs.Members.{has-filter}
 use Rattle.za_order.proofs.Sets.{any-here, any-where, has-map, has-flat_map, has-filter_map, in-range}
 use Rattle.za_order.proofs.Participants.{IsOver, word-over}
 use Rattle.za_order.proofs.Entries.{IsThirdStep, primary-below, secondary-below, tertiary-sound, tertiary-below}
-use Rattle.za_order.proofs.Least.{least-true, least-le, least_free-le, least_free-free, least_free-least, length-flat_map-le, length-filter_map-le, cube}
+use Rattle.za_alpha.proofs.Least.{least-true, least-le}
+use Rattle.za_order.proofs.Least.{least_free-le, least_free-free, least_free-least, length-flat_map-le, length-filter_map-le, cube}
 
 module _ (who : ℕ → List ℕ) (processes n p : ℕ) where
   -- the list of tertiary entries has no other event

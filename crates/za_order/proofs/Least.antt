@@ -1,42 +1,14 @@
--- The least number that passes a test, and the least that is not in a list.
+-- The least number that is not in a list.
 use Rattle.std.proofs.Math.Nat.{pow-zero}
-use Rattle.std.proofs.Common.{pow-suc, ◌≡◌, ℕ, zero, suc, ◌*◌, ◌^◌, ◌<◌, ◌≤◌, Bool, true, false, not, inl, inr, List, [], ◌∷◌, ◌==◌, length, filter, filter_map, flat_map, Option, Some, None, sym, ◌∙◌, arith, eq-eqb, ne_eqb, length-append}
+use Rattle.std.proofs.Common.{pow-suc, ◌≡◌, ℕ, zero, suc, ◌*◌, ◌^◌, ◌<◌, ◌≤◌, true, false, not, inl, inr, List, [], ◌∷◌, ◌==◌, length, filter, filter_map, flat_map, Option, Some, None, sym, ◌∙◌, arith, eq-eqb, ne_eqb, length-append}
 use Rattle.std.specs.List.{cons_option}
-use Rattle.std.proofs.lemmas.Bool.{cases_Bool, cases_lt, cond-true, cond-false, cond_both, and_from, not-false, not-true, not_from_false}
+use Rattle.std.proofs.lemmas.Bool.{cond_both, and_from, not-false, not-true, not_from_false}
 use Rattle.std.proofs.lemmas.List.Sums.{length-filter, count_by-le-length}
-use Rattle.za_alpha.specs.Words.{has, least}
+use Rattle.za_alpha.specs.Words.{has}
 use Rattle.za_order.specs.Labels.{least_free}
+use Rattle.za_alpha.proofs.Least.{least-true, least-below}
 use Rattle.za_alpha.proofs.Members.{has-filter}
 use Rattle.za_order.proofs.Sets.{has-cases}
-
--- the least passes, if any does
-pub least-true : (test : ℕ → Bool) (n : ℕ) → least test n < n → test (least test n) ≡ true
-least-true test zero = λ h. absurd (omega arith)
-least-true test (suc n) =
-    cond_both (test 0) 0 (suc (least (λ k. test (suc k)) n)) (λ v. v < suc n → test v ≡ true)
-    (λ t h. t) (λ t h. least-true (λ k. test (suc k)) n (omega arith))
-
--- what is below the least fails
-pub least-below : (test : ℕ → Bool) (n k : ℕ) → k < least test n → test k ≡ false
-least-below test zero k h = absurd (omega arith)
-least-below test (suc n) zero h =
-    elim (cases_Bool (test 0)) [
-      | inl t ↦ absurd (let z = cond-true (test 0) 0 (suc (least (λ k. test (suc k)) n)) t in omega arith)
-      | inr t ↦ t
-    ]
-least-below test (suc n) (suc k) h =
-    elim (cases_Bool (test 0)) [
-      | inl t ↦ absurd (let z = cond-true (test 0) 0 (suc (least (λ k. test (suc k)) n)) t in omega arith)
-      | inr t ↦ least-below (λ k. test (suc k)) n k (let z = cond-false (test 0) 0 (suc (least (λ k. test (suc k)) n)) t in omega arith)
-    ]
-
--- what passes is no smaller
-pub least-le : (test : ℕ → Bool) (n k : ℕ) → test k ≡ true → least test n ≤ k
-least-le test n k h =
-    elim (cases_lt k (least test n)) [
-      | inl lt ↦ absurd (let f = least-below test n k lt in cc)
-      | inr le ↦ le
-    ]
 
 -- a list without one of its numbers is shorter
 length-without : (xs : List ℕ) (k : ℕ) → has xs k ≡ true → length (filter (λ x. not (x == k)) xs) < length xs

@@ -7,7 +7,8 @@ use Rattle.za_alpha.specs.Words.{has, IsAlphabet, IsWord, projection, AreEquival
 use Rattle.za_script.specs.Scripts.{comes_next, is_enabled, weave_from, total, weave, Fits, FitsMaximally, Weaves}
 use Rattle.za_alpha.proofs.Swaps.{seen-take, seen-skip, all-right}
 use Rattle.za_script.specs.Laws.{WeaveIsMaximal, MaximalWordsAreOneTrace, WeaveDecides, MaximalWordsWeave}
-use Rattle.za_script.proofs.Lists.{least-true, least-below, all-at, all-fails, all-agree, count, same_front, longer_front, count-filter}
+use Rattle.za_alpha.proofs.Least.{least-true, least-below}
+use Rattle.za_script.proofs.Lists.{all-at, all-fails, all-agree, count, same_front, longer_front, count-filter}
 
 -- what comes next after a beginning
 pub next-in : (xs r : List ℕ) (a : ℕ) → comes_next (xs ++ r) (length xs) a ≡ true → (r' : List ℕ) × (r ≡ a ∷ r')

@@ -10,8 +10,9 @@ use Rattle.za_alpha.specs.Alphabet.{DistributedAlphabet, loc_of}
 use Rattle.za_alpha.proofs.Swaps.{seen-take, seen-skip}
 use Rattle.za_script.specs.Scripts.{comes_next, is_enabled, weave_from, total, weave, Fits, Weaves}
 use Rattle.za_script.specs.ScriptLists.{script_of, IsLetterOf, FitAlphabet}
-use Rattle.za_script.specs.Weaving.{IsReady, IsComplete, IsLeastComplete, NoneComplete}
-use Rattle.za_script.proofs.Lists.{least-is, least-none, all-at, all-from}
+use Rattle.za_script.specs.Weaving.{IsReady, IsGathered, IsLeastGathered, NoneGathered}
+use Rattle.za_alpha.proofs.Least.{least-is, least-none}
+use Rattle.za_script.proofs.Lists.{all-at, all-from}
 use Rattle.za_script.proofs.Confluence.{fits-more, fits-length, empty-fits}
 
 -- the letter that comes next is one of the script
@@ -56,7 +57,7 @@ pub record Stands (alphabet : DistributedAlphabet) (scripts : List (List ℕ)) (
 
 module _ (alphabet : DistributedAlphabet) (scripts : List (List ℕ)) (al : IsAlphabet (loc_of alphabet) (length alphabet.letters) alphabet.processes) (fit : FitAlphabet alphabet scripts) where
   -- a complete letter is enabled
-  complete-enabled : (places : List ℕ) (sets : List Procs) (word : List ℕ) (a : ℕ) → Stands alphabet scripts places sets word → a < length alphabet.letters → IsComplete alphabet sets a →
+  complete-enabled : (places : List ℕ) (sets : List Procs) (word : List ℕ) (a : ℕ) → Stands alphabet scripts places sets word → a < length alphabet.letters → IsGathered alphabet sets a →
       is_enabled (loc_of alphabet) (script_of scripts) word a ≡ true
   complete-enabled places sets word a s la k =
       all-from (λ p. comes_next (script_of scripts p) (length (projection (loc_of alphabet) p word)) a) (loc_of alphabet a)
@@ -66,7 +67,7 @@ module _ (alphabet : DistributedAlphabet) (scripts : List (List ℕ)) (al : IsAl
 
   -- an enabled letter is complete
   enabled-complete : (places : List ℕ) (sets : List Procs) (word : List ℕ) (a : ℕ) → Stands alphabet scripts places sets word → a < length alphabet.letters →
-      is_enabled (loc_of alphabet) (script_of scripts) word a ≡ true → IsComplete alphabet sets a
+      is_enabled (loc_of alphabet) (script_of scripts) word a ≡ true → IsGathered alphabet sets a
   enabled-complete places sets word a s la on =
       record {
         same = λ p.
@@ -84,7 +85,7 @@ module _ (alphabet : DistributedAlphabet) (scripts : List (List ℕ)) (al : IsAl
       }
 
   -- the least complete letter is the least enabled one
-  least-next : (places : List ℕ) (sets : List Procs) (word : List ℕ) (a : ℕ) → Stands alphabet scripts places sets word → IsLeastComplete alphabet sets a →
+  least-next : (places : List ℕ) (sets : List Procs) (word : List ℕ) (a : ℕ) → Stands alphabet scripts places sets word → IsLeastGathered alphabet sets a →
       a ≡ least (is_enabled (loc_of alphabet) (script_of scripts) word) (length alphabet.letters)
   least-next places sets word a s k =
       let l = k.letter in
@@ -110,7 +111,7 @@ module _ (alphabet : DistributedAlphabet) (scripts : List (List ℕ)) (al : IsAl
       }
 
   -- a letter that is fired is one more of the word
-  pub stands-step : (places moved : List ℕ) (sets more : List Procs) (word : List ℕ) (a : ℕ) → Stands alphabet scripts places sets word → IsLeastComplete alphabet sets a →
+  pub stands-step : (places moved : List ℕ) (sets more : List Procs) (word : List ℕ) (a : ℕ) → Stands alphabet scripts places sets word → IsLeastGathered alphabet sets a →
       length moved ≡ length places → length more ≡ length sets →
       ((p : ℕ) → p < length scripts → slice_index moved p ≡ slice_index places p + cond (has (loc_of alphabet a) p) 1 0) → IsReady (script_of scripts) moved more →
       Stands alphabet scripts moved more (word ++ a ∷ [])
@@ -140,7 +141,7 @@ module _ (alphabet : DistributedAlphabet) (scripts : List (List ℕ)) (al : IsAl
       }
 
   -- while a letter is fired, there is room in the scripts
-  pub stands-room : (places : List ℕ) (sets : List Procs) (word : List ℕ) (a : ℕ) → Stands alphabet scripts places sets word → IsLeastComplete alphabet sets a →
+  pub stands-room : (places : List ℕ) (sets : List Procs) (word : List ℕ) (a : ℕ) → Stands alphabet scripts places sets word → IsLeastGathered alphabet sets a →
       length word < total (script_of scripts) alphabet.processes
   stands-room places sets word a s k =
       let own = complete-enabled places sets word a s k.letter k.complete in
@@ -149,7 +150,7 @@ module _ (alphabet : DistributedAlphabet) (scripts : List (List ℕ)) (al : IsAl
       let lw = length-append word (a ∷ []) in omega arith
 
   -- the loop ends with the weave
-  pub stands-end : (places : List ℕ) (sets : List Procs) (word : List ℕ) → Stands alphabet scripts places sets word → NoneComplete alphabet sets →
+  pub stands-end : (places : List ℕ) (sets : List Procs) (word : List ℕ) → Stands alphabet scripts places sets word → NoneGathered alphabet sets →
       word ≡ weave (loc_of alphabet) (length alphabet.letters) alphabet.processes (script_of scripts)
   stands-end places sets word s none =
       let e = least-none (is_enabled (loc_of alphabet) (script_of scripts) word) (length alphabet.letters) (λ b lb.

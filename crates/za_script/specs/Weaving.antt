@@ -16,15 +16,15 @@ pub record IsReady (scripts : ℕ → List ℕ) (places : List ℕ) (sets : List
   pub next : (a p : ℕ) → a < length sets → has (set_at sets a) p ≡ comes_next (scripts p) (slice_index places p) a
 
 -- the letter's set has all of its processes, and no others
-pub record IsComplete (alphabet : DistributedAlphabet) (sets : List Procs) (a : ℕ) : Type 0 where
+pub record IsGathered (alphabet : DistributedAlphabet) (sets : List Procs) (a : ℕ) : Type 0 where
   pub same : (p : ℕ) → has (set_at sets a) p ≡ has (loc_of alphabet a) p
 
 -- the letter is the least that is complete
-pub record IsLeastComplete (alphabet : DistributedAlphabet) (sets : List Procs) (a : ℕ) : Type 0 where
+pub record IsLeastGathered (alphabet : DistributedAlphabet) (sets : List Procs) (a : ℕ) : Type 0 where
   pub letter : a < length alphabet.letters
-  pub complete : IsComplete alphabet sets a
-  pub below : (b : ℕ) → b < a → IsComplete alphabet sets b → ⊥
+  pub complete : IsGathered alphabet sets a
+  pub below : (b : ℕ) → b < a → IsGathered alphabet sets b → ⊥
 
 -- no letter is complete
-pub record NoneComplete (alphabet : DistributedAlphabet) (sets : List Procs) : Type 0 where
-  pub none : (a : ℕ) → a < length alphabet.letters → IsComplete alphabet sets a → ⊥
+pub record NoneGathered (alphabet : DistributedAlphabet) (sets : List Procs) : Type 0 where
+  pub none : (a : ℕ) → a < length alphabet.letters → IsGathered alphabet sets a → ⊥

@@ -4,7 +4,7 @@ ghost use Rattle.za_alpha.specs.Procs.{members, no_process};
 ghost use Rattle.za_alpha.specs.Alphabet.{loc_of, IsDistributed};
 ghost use Rattle.za_script.specs.Scripts.{comes_next};
 ghost use Rattle.za_script.specs.ScriptLists.{script_of, AreScripts, FitAlphabet};
-ghost use Rattle.za_script.specs.Weaving.{set_at, IsReady, IsComplete, IsLeastComplete, NoneComplete};
+ghost use Rattle.za_script.specs.Weaving.{set_at, IsReady, IsGathered, IsLeastGathered, NoneGathered};
 
 use crate::scripts::Scripts;
 use std::alloc::Global;
@@ -72,8 +72,8 @@ impl Weaving {
     /// The least letter that is next at all its processes.
     pub(crate) fn least_enabled(&self, alphabet: &Alphabet) -> Option<Letter>
         requires { vec_len self.now.sets ≡ length alphabet.now.letters }
-        ensures { MatchOption result (NoneComplete alphabet.now self.now.sets.items)
-            (λ a. IsLeastComplete alphabet.now self.now.sets.items a.0) }
+        ensures { MatchOption result (NoneGathered alphabet.now self.now.sets.items)
+            (λ a. IsLeastGathered alphabet.now self.now.sets.items a.0) }
     {
         for at in 0..alphabet.letters() {
             let a = Letter(at as u8);
@@ -92,7 +92,7 @@ impl Weaving {
         requires letters { vec_len self.old.sets ≡ length alphabet.now.letters }
         requires letter { a.0 < length alphabet.now.letters }
         requires ready { IsReady (script_of scripts.now) self.old.places.items self.old.sets.items }
-        requires complete { IsComplete alphabet.now self.old.sets.items a.0 }
+        requires complete { IsGathered alphabet.now self.old.sets.items a.0 }
         ensures places { vec_len self.new.places ≡ vec_len self.old.places }
         ensures letters { vec_len self.new.sets ≡ vec_len self.old.sets }
         ensures moved { (p : ℕ) → p < length scripts.now →

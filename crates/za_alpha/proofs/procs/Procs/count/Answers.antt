@@ -1,4 +1,4 @@
-use Rattle.std.proofs.Common.{◌≡◌, ◌∙◌, ap, sym, ℕ, arith, length}
+use Rattle.std.proofs.Common.{◌≡◌, ◌∙◌, ap, sym, arith, length}
 use Rattle.za_alpha.specs.Procs.{members_below}
 use Rattle.za_alpha.proofs.Members.{members_below-zero, length-members_below-more}
 use Rattle.za_alpha.proofs.procs.Procs.count.Goals as goal
