@@ -5,3 +5,6 @@ pub mod Single
 pub mod AnswerLemmas
 pub mod RunLemmas
 pub mod ReadLemmas
+pub mod ListsAlike
+pub mod Printable
+pub mod Alike
