@@ -8,3 +8,4 @@ pub mod ReadLemmas
 pub mod ListsAlike
 pub mod Printable
 pub mod Alike
+pub mod Causes

@@ -11,7 +11,7 @@ mod status;
 mod text;
 mod words;
 
-pub use laws::no_two_jobs_print_alike;
+pub use laws::{no_two_jobs_print_alike, statuses_have_their_causes};
 pub use run::{MOST_BYTES, plain};
 pub use status::{Outcome, Status};
 
