@@ -5,3 +5,7 @@ pub mod Single
 pub mod AnswerLemmas
 pub mod RunLemmas
 pub mod ReadLemmas
+pub mod ListsAlike
+pub mod Printable
+pub mod Alike
+pub mod Causes

@@ -4,3 +4,4 @@ pub mod Printed
 pub mod Answers
 pub mod Output
 pub mod Run
+pub mod Laws

@@ -3,6 +3,7 @@
 #![tactic(auto)]
 
 mod answer;
+mod laws;
 mod print;
 mod read;
 mod run;
@@ -10,6 +11,7 @@ mod status;
 mod text;
 mod words;
 
+pub use laws::{no_two_jobs_print_alike, statuses_have_their_causes};
 pub use run::{MOST_BYTES, plain};
 pub use status::{Outcome, Status};
 
