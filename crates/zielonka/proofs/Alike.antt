@@ -32,6 +32,7 @@ letter-alike l m hl hm e =
 abbrev AreSmall : List NamedLetter → Type 0
 AreSmall ls = (a : ℕ) → a < length ls → (procs_at ls a).0 < 2 ^ 16
 
+-- lines that are equal begin with the same byte
 first_byte : {x y : ℕ} {us vs : List ℕ} {ws zs : List (List ℕ)} {ls ms : List (List (List ℕ))} → ((x ∷ us) ∷ ws) ∷ ls ≡ ((y ∷ vs) ∷ zs) ∷ ms → x ≡ y
 first_byte e = cc
 
@@ -55,86 +56,91 @@ after_states job =
     number_line (codes "start") job.dfa.start ∷ accept_line job.dfa ∷ (row_lines job.dfa ++ (script_lines job.dfa.alphabet job.scripts ++ (codes "end" ∷ []) ∷ []))
 
 -- two jobs with one alphabet and one number of states
-module _ (alphabet : DistributedAlphabet) (states s t : ℕ) (firsts seconds : List Bool) (ts us : List ℕ) (scripts others : List (List ℕ)) where
-  abbrev d : CompleteDfa
-  d = record { alphabet = alphabet; states = states; start = s; accepting = firsts; targets = ts }
+module _ (alphabet : DistributedAlphabet) (states start other_start : ℕ) (accepting other_accepting : List Bool) (targets other_targets : List ℕ) (scripts other_scripts : List (List ℕ)) where
+  abbrev table : CompleteDfa
+  table = record { alphabet = alphabet; states = states; start = start; accepting = accepting; targets = targets }
 
-  abbrev e : CompleteDfa
-  e = record { alphabet = alphabet; states = states; start = t; accepting = seconds; targets = us }
+  abbrev other_table : CompleteDfa
+  other_table = record { alphabet = alphabet; states = states; start = other_start; accepting = other_accepting; targets = other_targets }
 
-  abbrev j : Job
-  j = record { dfa = d; scripts = scripts }
+  abbrev job : Job
+  job = record { dfa = table; scripts = scripts }
 
-  abbrev k : Job
-  k = record { dfa = e; scripts = others }
+  abbrev other_job : Job
+  other_job = record { dfa = other_table; scripts = other_scripts }
 
-  module _ (hj : IsJob j) (hk : IsJob k) where
-    few : states < 2 ^ 64
-    few = let limit = hj.few_states in omega arith
+  module _ (hj : IsJob job) (hk : IsJob other_job) where
+    -- the states can be printed
+    few_states : states < 2 ^ 64
+    few_states = let limit = hj.few_states in omega arith
 
     -- accepting states that print alike
-    accepting-alike : map decimal (filter (accepts_at d) (range_with_len 0 states)) ≡ map decimal (filter (accepts_at e) (range_with_len 0 states)) → firsts ≡ seconds
+    accepting-alike : map decimal (filter (accepts_at table) (range_with_len 0 states)) ≡ map decimal (filter (accepts_at other_table) (range_with_len 0 states)) → accepting ≡ other_accepting
     accepting-alike same =
-        let chosen = decimals-alike (filter (accepts_at d) (range_with_len 0 states)) (filter (accepts_at e) (range_with_len 0 states)) (small-accepting d few) (small-accepting e few) same in
+        let chosen = decimals-alike (filter (accepts_at table) (range_with_len 0 states)) (filter (accepts_at other_table) (range_with_len 0 states)) (small-accepting table few_states) (small-accepting other_table few_states) same in
         let la = hj.complete.accepting_length in
         let lb = hk.complete.accepting_length in
-        ext_get_or false firsts seconds (omega arith) (λ q h. filters-alike (accepts_at d) (accepts_at e) states chosen q (omega arith))
+        ext_get_or false accepting other_accepting (omega arith) (λ q h. filters-alike (accepts_at table) (accepts_at other_table) states chosen q (omega arith))
 
+    -- a number below n is in the range of n numbers
     within : (n q : ℕ) → q < n → has (range_with_len 0 n) q ≡ true
     within n q h = has-range-below n q ∙ grind (arith, nat_tests)
 
     -- rows that print alike
-    target-alike : (q a : ℕ) → q < states → a < length alphabet.letters → row_line d q a ≡ row_line e q a → target_at d q a ≡ target_at e q a
+    target-alike : (q a : ℕ) → q < states → a < length alphabet.letters → row_line table q a ≡ row_line other_table q a → target_at table q a ≡ target_at other_table q a
     target-alike q a hq ha same =
-        let steps : decimal (step_of d q a) ≡ decimal (step_of e q a) = cc in
-        let small = few in
-        let dl : step_of d q a < states = (total_of_complete d hj.complete).steps q a hq ha in
-        let el : step_of e q a < states = (total_of_complete e hk.complete).steps q a hq ha in
-        let step : step_of d q a ≡ step_of e q a = decimal_injective (step_of d q a) (step_of e q a) (omega arith) (omega arith) steps in
+        let steps : decimal (step_of table q a) ≡ decimal (step_of other_table q a) = cc in
+        let small = few_states in
+        let dl : step_of table q a < states = (total_of_complete table hj.complete).steps q a hq ha in
+        let el : step_of other_table q a < states = (total_of_complete other_table hk.complete).steps q a hq ha in
+        let step : step_of table q a ≡ step_of other_table q a = decimal_injective (step_of table q a) (step_of other_table q a) (omega arith) (omega arith) steps in
         let here : (nat_lt q states && nat_lt a (length alphabet.letters)) ≡ true = grind (arith, nat_tests) in
-        sym (ap (λ known. cond known (target_at d q a) q) here) ∙ step ∙ ap (λ known. cond known (target_at e q a) q) here
+        sym (ap (λ known. cond known (target_at table q a) q) here) ∙ step ∙ ap (λ known. cond known (target_at other_table q a) q) here
 
-    targets-alike : ((q a : ℕ) → has (range_with_len 0 states) q ≡ true → has (range_with_len 0 (length alphabet.letters)) a ≡ true → row_line d q a ≡ row_line e q a) → ts ≡ us
+    -- tables with the same rows have the same targets
+    targets-alike : ((q a : ℕ) → has (range_with_len 0 states) q ≡ true → has (range_with_len 0 (length alphabet.letters)) a ≡ true → row_line table q a ≡ row_line other_table q a) → targets ≡ other_targets
     targets-alike rows =
         let m = length alphabet.letters in
         let lt = hj.complete.targets_length in
         let lu = hk.complete.targets_length in
-        ext_get_or 0 ts us (omega arith) (λ i h.
+        ext_get_or 0 targets other_targets (omega arith) (λ i h.
         let inside : i < states * m = omega arith in
         let at = row_of_cell i states m inside in
         let cell : i / m * m + i % m ≡ i = let split = div-add-mod i m in omega arith in
         let same = target-alike (i / m) (i % m) at.0 at.1 (rows (i / m) (i % m) (within states (i / m) at.0) (within m (i % m) at.1)) in
-        ap (λ n. get_or ts n 0) (sym cell) ∙ same ∙ ap (λ n. get_or us n 0) cell)
+        ap (λ n. get_or targets n 0) (sym cell) ∙ same ∙ ap (λ n. get_or other_targets n 0) cell)
 
     -- scripts that print alike
-    scripts-alike : ((p : ℕ) → has (range_with_len 0 alphabet.processes) p ≡ true → script_line alphabet scripts p ≡ script_line alphabet others p) → scripts ≡ others
+    scripts-alike : ((p : ℕ) → has (range_with_len 0 alphabet.processes) p ≡ true → script_line alphabet scripts p ≡ script_line alphabet other_scripts p) → scripts ≡ other_scripts
     scripts-alike lines =
         let ls = hj.fit.processes in
         let lo = hk.fit.processes in
-        ext_get_or [] scripts others (omega arith) (λ p h.
+        ext_get_or [] scripts other_scripts (omega arith) (λ p h.
         let line = lines p (within alphabet.processes p (omega arith)) in
-        let names : map (name_at alphabet.letters) (script_of scripts p) ≡ map (name_at alphabet.letters) (script_of others p) = cc in
-        map-injective (name_at alphabet.letters) (λ a. a < length alphabet.letters) hj.complete.distributed.apart (script_of scripts p) (script_of others p)
+        let names : map (name_at alphabet.letters) (script_of scripts p) ≡ map (name_at alphabet.letters) (script_of other_scripts p) = cc in
+        map-injective (name_at alphabet.letters) (λ a. a < length alphabet.letters) hj.complete.distributed.apart (script_of scripts p) (script_of other_scripts p)
         (all-weaker (IsLetterOf alphabet p) (λ a. a < length alphabet.letters) (script_of scripts p) (λ a own. own.letter) (hj.fit.own p h))
-        (all-weaker (IsLetterOf alphabet p) (λ a. a < length alphabet.letters) (script_of others p) (λ a own. own.letter) (hk.fit.own p (omega arith))) names)
+        (all-weaker (IsLetterOf alphabet p) (λ a. a < length alphabet.letters) (script_of other_scripts p) (λ a own. own.letter) (hk.fit.own p (omega arith))) names)
 
-    rest-alike : after_states j ≡ after_states k → j ≡ k
+    -- jobs whose other lines are equal
+    rest-alike : after_states job ≡ after_states other_job → job ≡ other_job
     rest-alike same =
-        let starts : decimal s ≡ decimal t = cc in
-        let chosen : map decimal (filter (accepts_at d) (range_with_len 0 states)) ≡ map decimal (filter (accepts_at e) (range_with_len 0 states)) = cc in
-        let tail : row_lines d ++ (script_lines alphabet scripts ++ (codes "end" ∷ []) ∷ []) ≡ row_lines e ++ (script_lines alphabet others ++ (codes "end" ∷ []) ∷ []) = cc in
-        let small = few in
+        let starts : decimal start ≡ decimal other_start = cc in
+        let chosen : map decimal (filter (accepts_at table) (range_with_len 0 states)) ≡ map decimal (filter (accepts_at other_table) (range_with_len 0 states)) = cc in
+        let tail : row_lines table ++ (script_lines alphabet scripts ++ (codes "end" ∷ []) ∷ []) ≡ row_lines other_table ++ (script_lines alphabet other_scripts ++ (codes "end" ∷ []) ∷ []) = cc in
+        let small = few_states in
         let sl = hj.complete.starts in
         let tl = hk.complete.starts in
-        let start : s ≡ t = decimal_injective s t (omega arith) (omega arith) starts in
-        let accepting : firsts ≡ seconds = accepting-alike chosen in
-        let rows = rows-alike (row_line d) (row_line e) (range_with_len 0 states) (range_with_len 0 (length alphabet.letters)) (script_lines alphabet scripts ++ (codes "end" ∷ []) ∷ []) (script_lines alphabet others ++ (codes "end" ∷ []) ∷ []) tail in
-        let targets : ts ≡ us = targets-alike rows.0 in
-        let ends = maps-alike (script_line alphabet scripts) (script_line alphabet others) (range_with_len 0 alphabet.processes) ((codes "end" ∷ []) ∷ []) ((codes "end" ∷ []) ∷ []) rows.1 in
-        let last : scripts ≡ others = scripts-alike ends.0 in
+        let same_start : start ≡ other_start = decimal_injective start other_start (omega arith) (omega arith) starts in
+        let same_accepting : accepting ≡ other_accepting = accepting-alike chosen in
+        let rows = rows-alike (row_line table) (row_line other_table) (range_with_len 0 states) (range_with_len 0 (length alphabet.letters)) (script_lines alphabet scripts ++ (codes "end" ∷ []) ∷ []) (script_lines alphabet other_scripts ++ (codes "end" ∷ []) ∷ []) tail in
+        let same_targets : targets ≡ other_targets = targets-alike rows.0 in
+        let ends = maps-alike (script_line alphabet scripts) (script_line alphabet other_scripts) (range_with_len 0 alphabet.processes) ((codes "end" ∷ []) ∷ []) ((codes "end" ∷ []) ∷ []) rows.1 in
+        let same_scripts : scripts ≡ other_scripts = scripts-alike ends.0 in
         let made : ℕ → List Bool → List ℕ → List (List ℕ) → Job =
         λ start accepting targets scripts. record { dfa = record { alphabet = alphabet; states = states; start = start; accepting = accepting; targets = targets }; scripts = scripts } in
-        ap (λ n. made n firsts ts scripts) start ∙ ap (λ n. made t n ts scripts) accepting ∙ ap (λ n. made t seconds n scripts) targets ∙ ap (λ n. made t seconds us n) last
+        ap (λ n. made n accepting targets scripts) same_start ∙ ap (λ n. made other_start n targets scripts) same_accepting ∙ ap (λ n. made other_start other_accepting n scripts) same_targets
+        ∙ ap (λ n. made other_start other_accepting other_targets n) same_scripts
 
 -- two jobs with one printed form are one job
 pub no_two_jobs_print_alike : (j k : Job) → IsJob j → IsJob k → printed j ≡ printed k → j ≡ k

@@ -41,6 +41,7 @@ all_taken bytes taken None h e = absurd h
 all_taken bytes taken (Some left) h e = sym (h ∙ ap (λ rest. taken ++ rest) e ∙ append-nil taken)
 
 module _ (words : List (List ℕ)) (old new : Ends) where
+  -- status 2, by what is due and by the run
   usage_due : {status : ℕ} {text : List ℕ} → IsDue words old new status text → status ≡ 2 → (¬ AreSolo words) × ReadNothing old new × (text ≡ usage_text)
   usage_due (Usage apart nothing) e = (apart, nothing, refl)
   usage_due (TooLong solo many) e = absurd (omega arith)
@@ -52,6 +53,7 @@ module _ (words : List (List ℕ)) (old new : Ends) where
   usage_run (ReadFault solo rose nothing) e = absurd (omega arith)
   usage_run (NoMemory nothing) e = absurd (omega arith)
 
+  -- words that are not solo
   words_due : {status : ℕ} {text : List ℕ} → IsDue words old new status text → ¬ AreSolo words → status ≡ 2
   words_due (Usage apart nothing) not_solo = refl
   words_due (TooLong solo many) not_solo = absurd (not_solo solo)
@@ -69,17 +71,20 @@ module _ (words : List (List ℕ)) (old new : Ends) where
   due_status (TooLong solo many) = inl (inr refl)
   due_status (Said bytes status text solo all output) = inr (output-status output)
 
+  -- so no other status is due
   never_due : (status number : ℕ) → ((status ≡ 2) ⊎ (status ≡ 9)) ⊎ (is_of_bytes status ≡ true) → number ≢ 2 → number ≢ 9 → is_of_bytes number ≡ false → status ≡ number → ⊥
   never_due status number (inl (inl two)) not_two not_nine k e = absurd (omega arith)
   never_due status number (inl (inr nine)) not_two not_nine k e = absurd (omega arith)
   never_due status number (inr h) not_two not_nine k e = other status number h k e
 
+  -- status 6
   read_fault_run : {status : ℕ} → HasRun words old new status → status ≡ 6 → AreSolo words × Rises old.read_faults new.read_faults × WroteNothing old new
   read_fault_run (Wrote status text due whole) e = absurd (never_due status 6 (due_status due) (omega arith) (omega arith) refl e)
   read_fault_run (WriteFault status k text due short part rose) e = absurd (omega arith)
   read_fault_run (ReadFault solo rose nothing) e = (solo, rose, nothing)
   read_fault_run (NoMemory nothing) e = absurd (omega arith)
 
+  -- status 7
   write_fault_run : {status : ℕ} → HasRun words old new status → status ≡ 7 →
       (due k : ℕ) × (text : List ℕ) × IsDue words old new due text × (k < length text) × Appends old.written new.written (take k text) × Rises old.write_faults new.write_faults
   write_fault_run (Wrote status text due whole) e = absurd (never_due status 7 (due_status due) (omega arith) (omega arith) refl e)
@@ -87,12 +92,14 @@ module _ (words : List (List ℕ)) (old new : Ends) where
   write_fault_run (ReadFault solo rose nothing) e = absurd (omega arith)
   write_fault_run (NoMemory nothing) e = absurd (omega arith)
 
+  -- status 8
   no_memory_run : {status : ℕ} → HasRun words old new status → status ≡ 8 → WroteNothing old new
   no_memory_run (Wrote status text due whole) e = absurd (never_due status 8 (due_status due) (omega arith) (omega arith) refl e)
   no_memory_run (WriteFault status k text due short part rose) e = absurd (omega arith)
   no_memory_run (ReadFault solo rose nothing) e = absurd (omega arith)
   no_memory_run (NoMemory nothing) e = nothing
 
+  -- status 9
   too_long_due : {status : ℕ} {text : List ℕ} → IsDue words old new status text → status ≡ 9 → AreSolo words × ReadTooMany old new × (text ≡ too_long_text)
   too_long_due (Usage apart nothing) e = absurd (omega arith)
   too_long_due (TooLong solo many) e = (solo, many, refl)
@@ -104,6 +111,7 @@ module _ (words : List (List ℕ)) (old new : Ends) where
   too_long_run (ReadFault solo rose nothing) e = absurd (omega arith)
   too_long_run (NoMemory nothing) e = absurd (omega arith)
 
+  -- the statuses of bytes
   all_read_due : {status : ℕ} {text : List ℕ} → IsDue words old new status text → is_of_bytes status ≡ true → AreSolo words × ((bytes : List ℕ) × ReadAll old new bytes × IsOutput bytes status text)
   all_read_due (Usage apart nothing) h = absurd (cc)
   all_read_due (TooLong solo many) h = absurd (cc)
@@ -116,6 +124,7 @@ module _ (words : List (List ℕ)) (old new : Ends) where
   all_read_run (ReadFault solo rose nothing) h = absurd (cc)
   all_read_run (NoMemory nothing) h = absurd (cc)
 
+  -- each status is known
   known_due : (status : ℕ) → ((status ≡ 2) ⊎ (status ≡ 9)) ⊎ (is_of_bytes status ≡ true) → (is_of_bytes status || list_any (λ s. s == status) (2 ∷ 6 ∷ 7 ∷ 8 ∷ 9 ∷ [])) ≡ true
   known_due status (inl (inl two)) = rw two refl
   known_due status (inl (inr nine)) = rw nine refl
@@ -127,6 +136,7 @@ module _ (words : List (List ℕ)) (old new : Ends) where
   known_run (ReadFault solo rose nothing) = refl
   known_run (NoMemory nothing) = refl
 
+  -- a run over a source that tells its bytes
   module _ (bytes : List ℕ) (solo : AreSolo words) (told : old.left ≡ Some bytes) (few : length bytes ≤ MOST_BYTES) where
     completes_due : {status : ℕ} {text : List ℕ} → IsDue words old new status text → IsOutput bytes status text
     completes_due (Usage apart nothing) = absurd (apart solo)

@@ -24,6 +24,7 @@ words-alike w v ws vs h k e = sym (split-line w ws h) ∙ ap (slice_split (λ b.
 at_end : (w : List ℕ) (ws : List (List ℕ)) (rest : List ℕ) → line (w ∷ ws) ++ rest ≡ (w ++ spaced ws) ++ 10 ∷ rest
 at_end w ws rest = append_assoc (w ++ spaced ws) (10 ∷ []) rest
 
+-- a text with a line feed is not empty
 not_nothing : (a rest : List ℕ) → a ++ 10 ∷ rest ≡ [] → ⊥
 not_nothing [] rest e = absurd (cc)
 not_nothing (b ∷ a) rest e = absurd (cc)

@@ -46,9 +46,11 @@ pass-map p f P h [] all = refl
 pass-map p f P h (x ∷ xs) all =
     and_from (p (f x)) (list_all p (map f xs)) (h x (all 0 x (omega arith))) (pass-map p f P h xs (λ k d l. all (suc k) d (omega arith)))
 
+-- a test that passes at two lists passes at one after the other
 pass-append : {Y : Type 0} (p : Y → Bool) (xs ys : List Y) → list_all p xs ≡ true → list_all p ys ≡ true → list_all p (xs ++ ys) ≡ true
 pass-append p xs ys h k = list_all-append p xs ys ∙ and_from (list_all p xs) (list_all p ys) h k
 
+-- a test that passes at each list passes at their concatenation
 pass-flat : {X Y : Type 0} (p : Y → Bool) (f : X → List Y) (P : X → Type 0) → ((x : X) → P x → list_all p (f x) ≡ true) → (xs : List X) → All P xs → list_all p (flat_map f xs) ≡ true
 pass-flat p f P h [] all = refl
 pass-flat p f P h (x ∷ xs) all =
@@ -67,6 +69,7 @@ name_byte b h =
           ]
     ]
 
+-- bytes of names can be printed
 name_bytes : (bs : List ℕ) → list_all is_name_byte bs ≡ true → is_printable bs ≡ true
 name_bytes [] h = refl
 name_bytes (b ∷ bs) h =
@@ -76,6 +79,7 @@ name_bytes (b ∷ bs) h =
 pub printable-name : (name : List ℕ) → is_name name ≡ true → is_printable name ≡ true
 printable-name name h = name_bytes name (and_parts (nat_le 1 (length name) && nat_le (length name) 32 && not (begins_with_digit name)) (list_all is_name_byte name) h).1
 
+-- decimal numbers can be printed
 printable-decimals : (xs : List ℕ) → All IsSmall xs → are_printable (map decimal xs) ≡ true
 printable-decimals = pass-map is_printable decimal IsSmall printable-decimal
 
@@ -88,12 +92,15 @@ printable-letters (l ∷ ls) h =
     and_from (is_line (letter_line l)) (list_all is_line (map letter_line ls)) first (printable-letters ls (λ a k. h (suc a) (omega arith)))
 
 module _ (job : Job) (whole : IsJob job) where
+  -- the states can be printed
   few : job.dfa.states < 2 ^ 64
   few = let limit = whole.few_states in omega arith
 
+  -- so can the name of each letter
   named : (a : ℕ) → a < length job.dfa.alphabet.letters → is_printable (name_at job.dfa.alphabet.letters a) ≡ true
   named a h = printable-name (name_at job.dfa.alphabet.letters a) (whole.complete.distributed.names a h)
 
+  -- so can a row of the table
   printable-row : (q a : ℕ) → q < job.dfa.states → a < length job.dfa.alphabet.letters → is_line (row_line job.dfa q a) ≡ true
   printable-row q a hq ha =
       let low : step_of job.dfa q a < job.dfa.states = (total_of_complete job.dfa whole.complete).steps q a hq ha in
@@ -102,12 +109,14 @@ module _ (job : Job) (whole : IsJob job) where
       and_from (is_printable (decimal q)) (is_printable (name_at job.dfa.alphabet.letters a) && (is_printable (decimal (step_of job.dfa q a)) && true)) (printable-decimal q (omega arith))
       (and_from (is_printable (name_at job.dfa.alphabet.letters a)) (is_printable (decimal (step_of job.dfa q a)) && true) (named a ha) target)
 
+  -- and all of them
   printable-rows : list_all is_line (row_lines job.dfa) ≡ true
   printable-rows =
       pass-flat is_line (λ q. map (row_line job.dfa q) (range_with_len 0 (length job.dfa.alphabet.letters))) (λ q. q < job.dfa.states)
       (λ q hq. pass-map is_line (row_line job.dfa q) (λ a. a < length job.dfa.alphabet.letters) (λ a ha. printable-row q a hq ha) (range_with_len 0 (length job.dfa.alphabet.letters)) (below-range (length job.dfa.alphabet.letters)))
       (range_with_len 0 job.dfa.states) (below-range job.dfa.states)
 
+  -- so can the script of a process
   printable-script : (p : ℕ) → p < job.dfa.alphabet.processes → is_line (script_line job.dfa.alphabet job.scripts p) ≡ true
   printable-script p h =
       let limit = whole.complete.distributed.few_processes in
@@ -117,10 +126,12 @@ module _ (job : Job) (whole : IsJob job) where
       pass-map is_printable (name_at job.dfa.alphabet.letters) (IsLetterOf job.dfa.alphabet p) (λ a own. named a own.letter) (script_of job.scripts p) (whole.fit.own p within) in
       and_from (is_printable (decimal p)) (are_printable (map (name_at job.dfa.alphabet.letters) (script_of job.scripts p))) (printable-decimal p (omega arith)) names
 
+  -- and all of them
   printable-scripts : list_all is_line (script_lines job.dfa.alphabet job.scripts) ≡ true
   printable-scripts =
       pass-map is_line (script_line job.dfa.alphabet job.scripts) (λ p. p < job.dfa.alphabet.processes) printable-script (range_with_len 0 job.dfa.alphabet.processes) (below-range job.dfa.alphabet.processes)
 
+  -- so can the number of a line
   printable-number : (n : ℕ) → IsSmall n → (is_printable (decimal n) && true) ≡ true
   printable-number n h = and_from (is_printable (decimal n)) true (printable-decimal n h) refl
 
