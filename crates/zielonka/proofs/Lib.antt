@@ -5,3 +5,7 @@ pub mod Single
 pub mod AnswerLemmas
 pub mod RunLemmas
 pub mod ReadLemmas
+pub mod NameLemmas
+pub mod GridLines
+pub mod ScriptLemmas
+pub mod LetterLemmas
