@@ -9,3 +9,4 @@ pub mod NameLemmas
 pub mod GridLines
 pub mod ScriptLemmas
 pub mod LetterLemmas
+pub mod PrintedLemmas

@@ -102,8 +102,9 @@ pub table-made : (d : CompleteDfa) (alphabet : DistributedAlphabet) (table : Tab
     rows ≡ table.rows.items → (dfa_fault table.states table.start rows ≡ None) × (completed alphabet table.states table.start table.accepting.items rows ≡ d)
 table-made d alphabet table rows whole few same says given =
     let made = rows_complete d whole few in
-    let all = given ∙ says.rows in
-    (ap (λ n. dfa_fault n table.start rows) says.states ∙ ap (λ n. dfa_fault d.states n rows) says.start ∙ ap (dfa_fault d.states d.start) all ∙ made.0,
-    ap (λ a. completed a table.states table.start table.accepting.items rows) same ∙ ap (λ n. completed d.alphabet n table.start table.accepting.items rows) says.states
-    ∙ ap (λ n. completed d.alphabet d.states n table.accepting.items rows) says.start ∙ ap (λ bs. completed d.alphabet d.states d.start bs rows) says.accepting
-    ∙ ap (completed d.alphabet d.states d.start d.accepting) all ∙ made.1)
+    let all = given ∙ says.rows in (
+      ap (λ n. dfa_fault n table.start rows) says.states ∙ ap (λ n. dfa_fault d.states n rows) says.start ∙ ap (dfa_fault d.states d.start) all ∙ made.0,
+      ap (λ a. completed a table.states table.start table.accepting.items rows) same ∙ ap (λ n. completed d.alphabet n table.start table.accepting.items rows) says.states
+          ∙ ap (λ n. completed d.alphabet d.states n table.accepting.items rows) says.start ∙ ap (λ bs. completed d.alphabet d.states d.start bs rows) says.accepting
+          ∙ ap (completed d.alphabet d.states d.start d.accepting) all ∙ made.1,
+    )

@@ -40,9 +40,9 @@ appended-more old mid new p us vs h first second =
     let there : script_of mid p ≡ script_of old p ++ us = ap (λ s. script_of s p) first.scripts ∙ get_or-set_same old p (script_of old p ++ us) [] h in
     record {
       scripts =
-        second.scripts ∙ ap (λ s. set mid p (s ++ vs)) there ∙ ap (λ s. set s p ((script_of old p ++ us) ++ vs)) first.scripts
-        ∙ set-twice old p (script_of old p ++ us) ((script_of old p ++ us) ++ vs)
-        ∙ ap (set old p) (append_assoc (script_of old p) us vs);
+          second.scripts ∙ ap (λ s. set mid p (s ++ vs)) there ∙ ap (λ s. set s p ((script_of old p ++ us) ++ vs)) first.scripts
+          ∙ set-twice old p (script_of old p ++ us) ((script_of old p ++ us) ++ vs)
+          ∙ ap (set old p) (append_assoc (script_of old p) us vs);
       total = let a = first.total in let b = second.total in let c = length-append us vs in omega arith;
     }
 

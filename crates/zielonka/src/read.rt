@@ -81,6 +81,18 @@ fn alphabet_of(
     }
 }
 
+/// The alphabet that the first lines of a text say, if they say one, and the text after them.
+fn take_alphabet(alloc: Global, text: &[u8]) -> Result<(Option<Alphabet>, &[u8]), OutOfMemory>
+    ensures { IfOk result (λ parts. (alphabet : DistributedAlphabet) (rest : List ℕ) → IsDistributed alphabet → begins_letter rest ≡ false
+        → text.now ≡ line (codes "zla" ∷ codes "1" ∷ []) ++ (line (number_line (codes "processes") alphabet.processes) ++ (text_of (map letter_line alphabet.letters) ++ rest))
+        → (parts.0 ≡ Some alphabet) × (parts.1.now ≡ rest)) }
+{
+    let (_header, rest) = take_line(alloc, text)?;
+    let (processes, rest) = take_number_line(alloc, rest)?;
+    let (letters, rest) = take_letters(alloc, rest)?;
+    Ok((alphabet_of(alloc, processes, letters)?, rest))
+}
+
 /// Which of so many states are among the numbers.
 fn accepting_of(alloc: Global, states: usize, numbers: &[u32]) -> Result<Vec<bool>, OutOfMemory>
     requires { states ≤ MOST_STATES }
@@ -198,6 +210,22 @@ fn dfa_of(alloc: Global, alphabet: Alphabet, table: Table) -> Result<Option<Dfa>
     }
 }
 
+/// The automaton that the first lines say, if they say one that needs no further state, and the
+/// text after them.
+fn take_dfa(
+    alloc: Global,
+    alphabet: Alphabet,
+    text: &[u8],
+) -> Result<(Option<Dfa>, &[u8]), OutOfMemory>
+    ensures few_states { IfOk result (λ parts. ForSome parts.0 (λ d. d.states ≤ MOST_STATES)) }
+    ensures read { IfOk result (λ parts. (d : CompleteDfa) (rest : List ℕ) → IsComplete d → d.states ≤ MOST_STATES → alphabet ≡ d.alphabet
+        → text.now ≡ line (number_line (codes "states") d.states) ++ (line (number_line (codes "start") d.start) ++ (line (accept_line d) ++ (text_of (row_lines d) ++ rest)))
+        → (parts.0 ≡ Some d) × (parts.1.now ≡ rest)) }
+{
+    let (table, rest) = take_table(alloc, alphabet.letters(), text)?;
+    Ok((dfa_of(alloc, alphabet, table)?, rest))
+}
+
 /// Appends the letter of a name to a script, if it is one of the process and there is room.
 fn add_name(
     alphabet: &Alphabet,
@@ -281,15 +309,13 @@ fn gathered(alloc: Global, text: &[u8]) -> Result<Option<Job>, OutOfMemory>
     ensures few_states { IfOk result (λ job. ForSome job (λ j. j.dfa.states ≤ MOST_STATES)) }
     ensures read { IfOk result (λ found. (job : Printed.Job) → IsJob job → text.now ≡ printed job → found ≡ Some (record { dfa = job.dfa; scripts = job.scripts })) }
 {
-    let (_header, rest) = take_line(alloc, text)?;
-    let (processes, rest) = take_number_line(alloc, rest)?;
-    let (letters, rest) = take_letters(alloc, rest)?;
-    let alphabet = match alphabet_of(alloc, processes, letters)? {
+    let (alphabet, rest) = take_alphabet(alloc, text)?;
+    let alphabet = match alphabet {
         None => return Ok(None),
         Some(alphabet) => alphabet,
     };
-    let (table, rest) = take_table(alloc, alphabet.letters(), rest)?;
-    let dfa = match dfa_of(alloc, alphabet, table)? {
+    let (dfa, rest) = take_dfa(alloc, alphabet, rest)?;
+    let dfa = match dfa {
         None => return Ok(None),
         Some(dfa) => dfa,
     };

@@ -11,5 +11,5 @@ abbrev pub invariant-loop-name : goal.invariant-loop-name
 invariant-loop-name l = record {
   sized : length l.scripts ≡ length l.initial.scripts;
   read : (letters : List ℕ) → IsDistributed l.alphabet → All (IsLetterOf l.alphabet l.p) letters → shown l.names ≡ map (name_at l.alphabet.letters) letters →
-    total_of l.initial.scripts + length letters ≤ MOST_SCRIPT_LETTERS → AreAppended l.initial.scripts l.scripts l.p (take l.name-index letters);
+      total_of l.initial.scripts + length letters ≤ MOST_SCRIPT_LETTERS → AreAppended l.initial.scripts l.scripts l.p (take l.name-index letters);
 }

@@ -14,11 +14,12 @@ loop-p-init c =
     record {
       sized = ap length c.in_ok-scripts.ensures ∙ length-replicate c.processes.result [] ∙ c.processes.ensures.value;
       read = λ all rest whole limits fit e.
-        let n = c.args.alphabet.now.processes in
-        let size : c.processes.result ≡ length all = c.processes.ensures.value ∙ sym fit.processes in
-        let from : n ≡ n - 0 = omega arith in
-        (subst (λ (s : List (List ℕ)). AreBelow all s 0) (sym c.in_ok-scripts.ensures) (below-none all c.processes.result size),
-        e ∙ ap (λ k. text_of (map (script_line c.args.alphabet.now all) (range_with_len 0 k)) ++ rest) from);
+          let n = c.args.alphabet.now.processes in
+          let size : c.processes.result ≡ length all = c.processes.ensures.value ∙ sym fit.processes in
+          let from : n ≡ n - 0 = omega arith in (
+            subst (λ (s : List (List ℕ)). AreBelow all s 0) (sym c.in_ok-scripts.ensures) (below-none all c.processes.result size),
+            e ∙ ap (λ k. text_of (map (script_line c.args.alphabet.now all) (range_with_len 0 k)) ++ rest) from,
+          );
     }
 
 pub loop-p-preserved : goal.loop-p-preserved
@@ -26,19 +27,19 @@ loop-p-preserved c =
     record {
       sized = c.in_ok-rest.ensures.sized ∙ c.loop-p.invariant.sized;
       read = λ all rest whole limits fit e.
-        let alphabet = c.args.alphabet.now in
-        let p = c.loop-p.p in
-        let n = alphabet.processes in
-        let end = c.processes-p-end.ensures.value in
-        let inside : p < n = omega arith in
-        let size = fit.processes in
-        let there : p < length all = omega arith in
-        let before = c.loop-p.invariant.read all rest whole limits fit e in
-        let left = room-for all p MOST_SCRIPT_LETTERS there limits.few_letters in
-        let room : total_of c.loop-p.scripts + length (script_of all p) ≤ MOST_SCRIPT_LETTERS = let t = before.0.total in omega arith in
-        let took = c.in_ok-rest.ensures.read all (text_of (map (script_line alphabet all) (range_with_len (p + 1) (n - (p + 1)))) ++ rest) whole fit room
-        (before.1 ∙ lines-step (script_line alphabet all) p n rest inside) in
-        (below-more all c.loop-p.scripts c.take_script.new.scripts p there before.0 took.0, took.1);
+          let alphabet = c.args.alphabet.now in
+          let p = c.loop-p.p in
+          let n = alphabet.processes in
+          let end = c.processes-p-end.ensures.value in
+          let inside : p < n = omega arith in
+          let size = fit.processes in
+          let there : p < length all = omega arith in
+          let before = c.loop-p.invariant.read all rest whole limits fit e in
+          let left = room-for all p MOST_SCRIPT_LETTERS there limits.few_letters in
+          let room : total_of c.loop-p.scripts + length (script_of all p) ≤ MOST_SCRIPT_LETTERS = let t = before.0.total in omega arith in
+          let took = c.in_ok-rest.ensures.read all (text_of (map (script_line alphabet all) (range_with_len (p + 1) (n - (p + 1)))) ++ rest) whole fit room
+          (before.1 ∙ lines-step (script_line alphabet all) p n rest inside) in
+          (below-more all c.loop-p.scripts c.take_script.new.scripts p there before.0 took.0, took.1);
     }
 
 pub returns : goal.returns

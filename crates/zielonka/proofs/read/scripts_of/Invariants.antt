@@ -12,5 +12,5 @@ abbrev pub invariant-loop-p : goal.invariant-loop-p
 invariant-loop-p l = record {
   sized : length l.scripts ≡ l.alphabet.processes;
   read : (all : List (List ℕ)) (rest : List ℕ) → IsDistributed l.alphabet → AreScripts all → FitAlphabet l.alphabet all → l.text ≡ text_of (script_lines l.alphabet all) ++ rest →
-    AreBelow all l.scripts l.p × (l.rest ≡ text_of (map (script_line l.alphabet all) (range_with_len l.p (l.alphabet.processes - l.p))) ++ rest);
+      AreBelow all l.scripts l.p × (l.rest ≡ text_of (map (script_line l.alphabet all) (range_with_len l.p (l.alphabet.processes - l.p))) ++ rest);
 }

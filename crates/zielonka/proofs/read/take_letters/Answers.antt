@@ -20,8 +20,8 @@ lines-preserved c letters rest names ends e =
     let one : TookLetter c.lines.rest.now c.in_ok-letter_of.field-0 c.in_ok-words.after.now =
     record {
       read = λ l after named same.
-        let read = c.in_ok-words.ensures.read (codes "letter") (l.name ∷ map decimal (members l.loc)) after (printable-letter l named) same in
-        (c.in_ok-letter_of.ensures l (ap shown c.as_slice.ensures.value ∙ read.0), read.1);
+          let read = c.in_ok-words.ensures.read (codes "letter") (l.name ∷ map decimal (members l.loc)) after (printable-letter l named) same in
+          (c.in_ok-letter_of.ensures l (ap shown c.as_slice.ensures.value ∙ read.0), read.1);
     } in
     subst (λ (rows : List LetterRow). TookLetters letters rest rows c.in_ok-words.after.now) (sym c.in_ok-push.ensures.items)
     (took-more letters rest c.lines.letters.items c.in_ok-letter_of.field-0 c.lines.rest.now c.in_ok-words.after.now ends (sym c.lines-test.ensures.value) (c.lines.invariant letters rest names ends e) one)

@@ -14,5 +14,5 @@ abbrev pub invariant-loop-i : goal.invariant-loop-i
 invariant-loop-i l = record {
   known : All (λ (row : Row). row.letter.0 < l.letters) l.rows.items;
   read : (d : CompleteDfa) (rest : List ℕ) → IsComplete d → l.states ≡ d.states → l.letters ≡ length d.alphabet.letters → l.text ≡ text_of (row_lines d) ++ rest →
-    (l.rows.items ≡ map (cell_row d) (range_with_len 0 l.i)) × (l.rest ≡ text_of (map (cell_line d) (range_with_len l.i (d.states * length d.alphabet.letters - l.i))) ++ rest);
+      (l.rows.items ≡ map (cell_row d) (range_with_len 0 l.i)) × (l.rest ≡ text_of (map (cell_line d) (range_with_len l.i (d.states * length d.alphabet.letters - l.i))) ++ rest);
 }
