@@ -9,3 +9,8 @@ pub mod ListsAlike
 pub mod Printable
 pub mod Alike
 pub mod Causes
+pub mod NameLemmas
+pub mod GridLines
+pub mod ScriptLemmas
+pub mod LetterLemmas
+pub mod PrintedLemmas

@@ -19,7 +19,7 @@ no_space b h = grind (arith, nat_tests)
 no_feed : (b : ℕ) → nat_lt 32 b ≡ true → not (b == 10) ≡ true
 no_feed b h = grind (arith, nat_tests)
 
-both : (a b : Bool) → a ≡ true → b ≡ true → (a && b) ≡ true
+pub both : (a b : Bool) → a ≡ true → b ≡ true → (a && b) ≡ true
 both true b h k = k
 both false b h k = absurd (cc)
 

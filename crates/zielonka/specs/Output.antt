@@ -1,5 +1,5 @@
 -- What is due for the bytes of a text.
-use Rattle.std.specs.Prelude.{◌≡◌, ℕ, List, [], ◌∷◌, codes}
+use Rattle.std.specs.Prelude.{◌≡◌, ◌≢◌, ℕ, List, [], ◌∷◌, codes}
 use Rattle.za_alpha.specs.Alphabet.{loc_of}
 use Rattle.za_dfa.specs.Automata.{HasDiamonds}
 use Rattle.za_dfa.specs.Diamonds.{BreaksDiamond}
@@ -31,8 +31,8 @@ pub record IsAnswered (d : CompleteDfa) (scripts : List (List ℕ)) (status : �
 
 -- the status and the text that are due for these bytes
 pub data IsOutput (bytes : List ℕ) : ℕ → List ℕ → Type 0 where
-  -- the bytes are refused
-  NotPlain : IsOutput bytes 4 not_plain_text
+  -- the bytes are the printed form of no job
+  NotPlain : ((job : Job) → IsJob job → bytes ≢ printed job) → IsOutput bytes 4 not_plain_text
   -- they are that of a job in whose automaton two independent letters lead from some state to two states
   NotBuilt : (job : Job) → IsJob job → bytes ≡ printed job → BreaksDiamond (loc_of job.dfa.alphabet) (automaton_of job.dfa) → IsOutput bytes 10 not_built_text
   -- they are that of a job, and its answer is said

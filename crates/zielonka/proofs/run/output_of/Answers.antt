@@ -10,12 +10,12 @@ ok_map (Ok x) P Q f p = f x p
 ok_map (Err e) P Q f p = p
 
 pub returns-in-None : goal.returns-in-None
-returns-in-None c = subst (λ t. IsOutput c.args.text.now 4 t) (sym c.in_ok-from_slice-in-None.ensures.items) NotPlain
+returns-in-None c = subst (λ t. IsOutput c.args.text.now 4 t) (sym c.in_ok-from_slice-in-None.ensures.items) (NotPlain (rw c.in-None.is at c.in_ok-job.ensures))
 
 pub returns-in-Ok : goal.returns-in-Ok
 returns-in-Ok c =
     let job = c.in-Some.job in
-    let read = c.in_ok-job.ensures job c.in-Some.is in
+    let read = rw c.in-Some.is at c.in_ok-job.ensures in
     let same = c.dfa.ensures.value ∙ c.in-Ok.ensures.0 in
     ok_map c.answered.result _ _
     (λ output said.
@@ -26,5 +26,5 @@ returns-in-Ok c =
 pub returns : goal.returns
 returns c =
     let job = c.in-Some.job in
-    let read = c.in_ok-job.ensures job c.in-Some.is in
+    let read = rw c.in-Some.is at c.in_ok-job.ensures in
     subst (λ t. IsOutput c.args.text.now 10 t) (sym c.in_ok-from_slice-in-Err.ensures.items) (NotBuilt (record { dfa = job.dfa; scripts = job.scripts }) read.0 read.1 c.in-Err.ensures.1)
