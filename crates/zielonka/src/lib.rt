@@ -16,4 +16,6 @@ pub use run::{MOST_BYTES, plain};
 pub use status::{Outcome, Status};
 
 #[cfg(test)]
+mod orders;
+#[cfg(test)]
 mod tests;

@@ -1,0 +1,110 @@
+//! Every order of firing of small jobs, found by trying each enabled letter, against the weave.
+
+use crate::read::read_plain;
+use std::alloc::Global;
+use std::process::Abort;
+use std::test::Fail;
+use za_alpha::{Alphabet, Letter, OutOfMemory, Word};
+use za_dfa::Closed;
+use za_script::{Scripts, weave};
+
+const TWO: &str =
+    "zla 1\nprocesses 2\nletter a 0\nletter b 1\nletter c 0 1\nstates 2\nstart 0\naccept 0\nrow 0 a 1\nrow 0 b 0\nrow 0 c 0\nrow 1 a 0\nrow 1 b 1\nrow 1 c 1\nscript 0 a c a\nscript 1 b c\nend\n";
+
+const MANY: &str =
+    "zla 1\nprocesses 2\nletter a 0\nletter b 1\nletter c 0 1\nstates 2\nstart 0\naccept 0\nrow 0 a 1\nrow 0 b 0\nrow 0 c 0\nrow 1 a 0\nrow 1 b 1\nrow 1 c 1\nscript 0 a a c\nscript 1 b b c\nend\n";
+
+const STUCK: &str =
+    "zla 1\nprocesses 2\nletter a 0\nletter b 1\nletter c 0 1\nstates 2\nstart 0\naccept 0\nrow 0 a 1\nrow 0 b 0\nrow 0 c 0\nrow 1 a 0\nrow 1 b 1\nrow 1 c 1\nscript 0 c a\nscript 1 b\nend\n";
+
+const LOCK: &str =
+    "zla 1\nprocesses 3\nletter lock0 0 2\nletter unlock0 0 2\nletter lock1 1 2\nletter unlock1 1 2\nletter work0 0\nletter work1 1\nstates 4\nstart 0\naccept 0\nrow 0 lock0 1\nrow 0 unlock0 3\nrow 0 lock1 2\nrow 0 unlock1 3\nrow 0 work0 3\nrow 0 work1 3\nrow 1 lock0 3\nrow 1 unlock0 0\nrow 1 lock1 3\nrow 1 unlock1 3\nrow 1 work0 1\nrow 1 work1 3\nrow 2 lock0 3\nrow 2 unlock0 3\nrow 2 lock1 3\nrow 2 unlock1 0\nrow 2 work0 3\nrow 2 work1 2\nrow 3 lock0 3\nrow 3 unlock0 3\nrow 3 lock1 3\nrow 3 unlock1 3\nrow 3 work0 3\nrow 3 work1 3\nscript 0 lock0 work0 unlock0\nscript 1 lock1 work1 unlock1\nscript 2 lock1 unlock1 lock0 unlock0\nend\n";
+
+/// Whether the letter is the next one of each of its processes after the word.
+fn is_enabled(
+    rt: &impl Abort,
+    alphabet: &Alphabet,
+    scripts: &Scripts,
+    word: &Word,
+    a: Letter,
+) -> bool {
+    assert!(rt; (a.0 as usize) < alphabet.letters());
+    for p in 0..scripts.processes() {
+        if alphabet.loc(a).has(p) {
+            let mut fired = 0usize;
+            for b in word.letters() {
+                assert!(rt; (b.0 as usize) < alphabet.letters());
+                if alphabet.loc(*b).has(p) {
+                    fired = fired.saturating_add(1);
+                }
+            }
+            if scripts.script(p).letters().get(fired) != Some(&a) {
+                return false;
+            }
+        }
+    }
+    true
+}
+
+/// The words that one more enabled letter makes of these, and those that none can be appended to.
+fn fire_each(
+    rt: &impl Abort,
+    alphabet: &Alphabet,
+    scripts: &Scripts,
+    words: Vec<Word>,
+    maximal: &mut Vec<Word>,
+    alloc: Global,
+) -> Result<Vec<Word>, OutOfMemory> {
+    let mut longer = Vec::new(alloc);
+    for word in words {
+        let before = longer.len();
+        for a in 0..alphabet.letters() {
+            let a = Letter(a as u8);
+            if is_enabled(rt, alphabet, scripts, &word, a) {
+                let mut next = word.copy()?;
+                next.push(a)?;
+                longer.push(next)?;
+            }
+        }
+        if longer.len() == before {
+            maximal.push(word)?;
+        }
+    }
+    Ok(longer)
+}
+
+#[test]
+fn every_order_of_firing_has_the_answer_of_the_weave(rt: HostRuntime) -> Result<(), Fail> {
+    let alloc = rt.alloc();
+    for (text, orders) in [(TWO, 2usize), (MANY, 6), (STUCK, 1), (LOCK, 1)] {
+        let job = read_plain(alloc, text.as_bytes())?.ok_or("not plain")?;
+        let alphabet = job.dfa.alphabet().copy()?;
+        let closed = match Closed::new(job.dfa) {
+            Ok(closed) => closed,
+            Err(_) => panic!(&rt; "a broken diamond"),
+        };
+        assert!(rt; job.scripts.fits(&alphabet));
+        let woven = weave(alloc, &alphabet, &job.scripts)?;
+        let mut maximal = Vec::new(alloc);
+        let mut words = Vec::new(alloc);
+        words.push(Word::new(alloc))?;
+        for _ in 0..job.scripts.total() {
+            words = fire_each(&rt, &alphabet, &job.scripts, words, &mut maximal, alloc)?;
+        }
+        fire_each(&rt, &alphabet, &job.scripts, words, &mut maximal, alloc)?;
+        assert_eq!(rt; maximal.len(), orders);
+        for word in &maximal {
+            assert!(rt; alphabet.has_word(word) && alphabet.has_word(woven.word()));
+            assert!(rt; alphabet.same_trace(word, woven.word()));
+            assert!(rt;
+                closed.dfa().alphabet().has_word(word)
+                    && closed.dfa().alphabet().has_word(woven.word())
+            );
+            assert_eq!(rt;
+                closed.dfa().accepts(word),
+                closed.dfa().accepts(woven.word())
+            );
+        }
+    }
+    Ok(())
+}
