@@ -70,11 +70,3 @@ nine_pieces l0 l1 l3 l4 l5 l8 t2 t6 t7 x0 x1 x2 x3 x4 x5 x6 x7 x8 e0 e1 e2 e3 e4
     flat_map-append line t2 (l3 ∷ l4 ∷ l5 ∷ (t6 ++ (t7 ++ l8 ∷ []))) ∙ ap (λ ys. text_of t2 ++ (line l3 ++ (line l4 ++ (line l5 ++ ys)))) rows in
     glued (line l0) (line l1) (text_of t2) (line l3) (line l4) (line l5) (text_of t6) (text_of t7) (line l8) x0 x1 x2 x3 x4 x5 x6 x7 x8 e0 e1 e2 e3 e4 e5 e6 e7 e8
     ∙ sym (ap (λ ys. line l0 ++ (line l1 ++ ys)) all)
-
--- the text of a job's lines, piece by piece
-pub text-pieces : (l0 l1 l3 l4 l5 : List (List ℕ)) (t2 t6 t7 t8 : List (List (List ℕ))) →
-    text_of (l0 ∷ l1 ∷ (t2 ++ (l3 ∷ l4 ∷ l5 ∷ (t6 ++ (t7 ++ t8))))) ≡ line l0 ++ (line l1 ++ (text_of t2 ++ (line l3 ++ (line l4 ++ (line l5 ++ (text_of t6 ++ (text_of t7 ++ text_of t8)))))))
-text-pieces l0 l1 l3 l4 l5 t2 t6 t7 t8 =
-    let rows : text_of (t6 ++ (t7 ++ t8)) ≡ text_of t6 ++ (text_of t7 ++ text_of t8) = flat_map-append line t6 (t7 ++ t8) ∙ ap (λ ys. text_of t6 ++ ys) (flat_map-append line t7 t8) in
-    ap (λ ys. line l0 ++ (line l1 ++ ys)) (flat_map-append line t2 (l3 ∷ l4 ∷ l5 ∷ (t6 ++ (t7 ++ t8))))
-    ∙ ap (λ ys. line l0 ++ (line l1 ++ (text_of t2 ++ (line l3 ++ (line l4 ++ (line l5 ++ ys)))))) rows

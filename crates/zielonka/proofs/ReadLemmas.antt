@@ -1,5 +1,5 @@
 -- Names, letters and tables that are read.
-use Rattle.std.proofs.Common.{◌≡◌, ℕ, zero, suc, ◌+◌, ◌*◌, ◌/◌, ◌%◌, ◌^◌, ◌<◌, ◌≤◌, Bool, true, false, ◌&&◌, List, [], ◌∷◌, length, map, filter, get_or, Option, Some, None, cond, sym, ◌∙◌, ap, refl, arith, inl, inr}
+use Rattle.std.proofs.Common.{◌≡◌, ℕ, zero, suc, ◌+◌, ◌*◌, ◌/◌, ◌%◌, ◌<◌, ◌≤◌, Bool, true, false, ◌&&◌, List, [], ◌∷◌, length, map, filter, get_or, Some, None, cond, sym, ◌∙◌, ap, refl, arith, inl, inr}
 use Rattle.std.specs.Prelude.{nat_lt, slice_index}
 use Rattle.std.specs.List.{position_from, range_with_len}
 use Rattle.std.specs.Str.{bytes_eq}
@@ -10,7 +10,7 @@ use Rattle.std.proofs.lemmas.List.FromFn.{get_or-map-range_with_len, length-map-
 use Rattle.std.proofs.Math.Nat.{mod-add-div}
 use Rattle.za_alpha.specs.declared.alphabet.LetterRow.{LetterRow}
 use Rattle.za_alpha.specs.Words.{has}
-use Rattle.za_alpha.specs.Alphabet.{NamedLetter, name_at, place_of}
+use Rattle.za_alpha.specs.Alphabet.{NamedLetter, place_of}
 use Rattle.za_alpha.proofs.Members.{has-filter, has-range-below, and-true}
 use Rattle.za_alpha.proofs.RoundTrip.{Says, SayAll}
 use Rattle.za_dfa.specs.Tables.{CompleteDfa, IsComplete, step_of, accepts_at}
@@ -22,7 +22,7 @@ use Rattle.za_dfa.proofs.RoundTrip.{rows_complete}
 use Rattle.za_alpha.specs.Alphabet.{DistributedAlphabet}
 use Rattle.zielonka.specs.Lines.{text_of}
 use Rattle.zielonka.specs.Printed.{row_line, row_lines}
-use Rattle.zielonka.specs.Reading.{SaidLetter, said_row, said_letter, cell_rows, SaysTable}
+use Rattle.zielonka.specs.Reading.{SaidLetter, said_row, said_letter, SaysTable}
 use Rattle.zielonka.specs.declared.read.Table.{Table}
 use Rattle.zielonka.proofs.GridLines.{grid-cells}
 

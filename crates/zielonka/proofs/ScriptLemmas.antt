@@ -1,5 +1,5 @@
 -- Scripts to which letters are appended one by one.
-use Rattle.std.proofs.Common.{◌≡◌, ◌≢◌, ℕ, zero, suc, ◌+◌, ◌-◌, ◌<◌, ◌≤◌, Bool, true, false, cond, List, [], ◌∷◌, ◌++◌, length, take, replicate, Option, Some, None, refl, sym, ap, subst, ◌∙◌, arith, inl, inr, append_assoc, length-append, set, length-set, get_or-set_other, get_or-set_same}
+use Rattle.std.proofs.Common.{◌≡◌, ◌≢◌, ℕ, zero, suc, ◌+◌, ◌-◌, ◌<◌, ◌≤◌, Bool, true, false, List, [], ◌∷◌, ◌++◌, length, replicate, Some, refl, sym, ap, ◌∙◌, arith, inl, inr, append_assoc, length-append, set, length-set, get_or-set_other, get_or-set_same}
 use Rattle.std.specs.List.{position_from}
 use Rattle.std.specs.Str.{bytes_eq}
 use Rattle.std.proofs.lemmas.Bool.{cases_eq}
@@ -7,7 +7,7 @@ use Rattle.std.proofs.lemmas.List.{ext_get_or, get_or-replicate, length-replicat
 use Rattle.std.proofs.lemmas.Slice.Eq.{bytes_eq-Decides}
 use Rattle.za_script.specs.Scripts.{total}
 use Rattle.za_script.specs.ScriptLists.{script_of, total_of}
-use Rattle.za_script.proofs.Totals.{length-le-total, total_of-add, total_of-empty}
+use Rattle.za_script.proofs.Totals.{total_of-add, total_of-empty}
 use Rattle.za_alpha.specs.Alphabet.{DistributedAlphabet, NamedLetter, IsDistributed, name_at, place_of}
 use Rattle.zielonka.specs.Reading.{AreAppended}
 

@@ -1,7 +1,7 @@
 -- Printed lines are cut and split at their words.
-use Rattle.std.proofs.Common.{◌≡◌, ℕ, ◌+◌, ◌*◌, ◌/◌, ◌%◌, ◌^◌, ◌<◌, ◌≤◌, Bool, true, false, not, cond, ◌&&◌, ◌==◌, List, [], ◌∷◌, ◌++◌, map, length, length-drop, take, drop, get_or, ◌-◌, ap, sym, ◌∙◌, refl, arith, append_assoc, decimal}
+use Rattle.std.proofs.Common.{◌≡◌, ℕ, ◌+◌, ◌%◌, ◌^◌, ◌<◌, Bool, true, false, not, ◌&&◌, ◌==◌, List, [], ◌∷◌, ◌++◌, length, length-drop, take, drop, get_or, ◌-◌, ap, sym, ◌∙◌, refl, arith, decimal}
 use Rattle.std.specs.Prelude.{nat_lt}
-use Rattle.std.specs.List.{list_all, slice_split, onto_first}
+use Rattle.std.specs.List.{slice_split}
 use Rattle.std.proofs.lemmas.Bool.{and_parts}
 use Rattle.std.proofs.lemmas.Bool.Decides.{nat_tests}
 use Rattle.std.proofs.lemmas.List.{append-nil}
@@ -10,7 +10,7 @@ use denote.Ref.{Bor}
 use Rattle.std.proofs.lemmas.List.{take-append-drop, drop-map}
 use Rattle.std.proofs.Math.Seq.{take-length}
 use Rattle.za_alpha.proofs.Projections.{drop-step}
-use Rattle.zielonka.specs.Lines.{spaced, line}
+use Rattle.zielonka.specs.Lines.{spaced}
 use Rattle.zielonka.specs.Reading.{is_printable, are_printable, is_one_line, shown}
 
 no_space : (b : ℕ) → nat_lt 32 b ≡ true → (b == 32) ≡ false

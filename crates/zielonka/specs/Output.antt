@@ -1,5 +1,5 @@
 -- What is due for the bytes of a text.
-use Rattle.std.specs.Prelude.{◌≡◌, ◌≢◌, ℕ, List, [], ◌∷◌, codes}
+use Rattle.std.specs.Prelude.{◌≡◌, ◌≢◌, ℕ, List, codes}
 use Rattle.za_alpha.specs.Alphabet.{loc_of}
 use Rattle.za_dfa.specs.Automata.{HasDiamonds}
 use Rattle.za_dfa.specs.Diamonds.{BreaksDiamond}

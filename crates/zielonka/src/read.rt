@@ -1,6 +1,7 @@
 //! Reading a plain text: the printed form of a job. The reader gathers a job from the words that
 //! stand where a printed job has them, whatever else the text holds. It prints that job and compares,
-//! so that every other text is refused.
+//! so that every other text is refused. From the printed form of a job it gathers that job, so that
+//! no such text is refused.
 
 ghost use Rattle.std.specs.Prelude.{◌≡◌, ◌≢◌, ◌↔◌, ◌<◌, ◌≤◌, ◌+◌, ◌++◌, ◌∷◌, [], ℕ, List, All, IfOk, IsTrue, MatchOption, Some, codes, false, length, map, true};
 ghost use Rattle.std.specs.List.{range_with_len};

@@ -1,11 +1,11 @@
-use Rattle.std.proofs.Common.{◌≡◌, ◌+◌, ◌≤◌, ◌<◌, ◌∷◌, [], ◌++◌, ℕ, List, length, map, take, get_or, sym, ap, subst, refl, ◌∙◌, arith}
+use Rattle.std.proofs.Common.{◌≡◌, ◌<◌, ◌∷◌, [], ℕ, List, length, take, get_or, sym, ap, subst, refl, ◌∙◌, arith}
 use denote.Ref.{Bor}
 use Rattle.std.proofs.lemmas.List.{take_more, get_or-map, length-map, length-take-le}
 use Rattle.std.proofs.Math.Seq.{take-length}
 use Rattle.za_alpha.specs.Alphabet.{name_at}
 use Rattle.za_script.specs.declared.fault.TheConstants.{MOST_SCRIPT_LETTERS}
 use Rattle.za_script.specs.ScriptLists.{total_of}
-use Rattle.zielonka.specs.Reading.{AreAppended, shown}
+use Rattle.zielonka.specs.Reading.{AreAppended}
 use Rattle.zielonka.proofs.ScriptLemmas.{appended-none, appended-more}
 use Rattle.zielonka.proofs.read.add_names.Goals as goal
 

@@ -1,4 +1,4 @@
-use Rattle.std.proofs.Common.{◌≡◌, Some, None, ap, sym, ◌∙◌}
+use Rattle.std.proofs.Common.{Some, ap, ◌∙◌}
 use Rattle.std.specs.Prelude.{unwrap_or}
 use Rattle.za_alpha.specs.declared.fault.AlphaFault.TheVariants.{OutOfMemory}
 use Rattle.za_alpha.specs.Rows.{alphabet_fault, alphabet_of_rows}

@@ -1,4 +1,4 @@
-use Rattle.std.proofs.Common.{◌≡◌, ◌≤◌, Some, ap, sym, ◌∙◌, arith}
+use Rattle.std.proofs.Common.{◌≡◌, ◌≤◌, Some, ap, ◌∙◌, arith}
 use Rattle.std.specs.Prelude.{unwrap_or}
 use Rattle.za_dfa.specs.Tables.{CompleteDfa}
 use Rattle.za_dfa.specs.declared.fault.DfaFault.TheVariants.{OutOfMemory}

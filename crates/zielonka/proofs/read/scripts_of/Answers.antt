@@ -1,11 +1,11 @@
-use Rattle.std.proofs.Common.{◌≡◌, ◌+◌, ◌-◌, ◌≤◌, ◌<◌, ◌++◌, ℕ, List, [], replicate, length, map, sym, ap, subst, ◌∙◌, arith}
+use Rattle.std.proofs.Common.{◌≡◌, ◌+◌, ◌-◌, ◌≤◌, ◌<◌, ◌++◌, ℕ, List, [], length, map, sym, ap, subst, ◌∙◌, arith}
 use Rattle.std.specs.List.{range_with_len}
 use Rattle.std.proofs.lemmas.List.{length-replicate}
 use Rattle.za_script.specs.declared.fault.TheConstants.{MOST_SCRIPT_LETTERS}
 use Rattle.za_script.specs.ScriptLists.{script_of, total_of}
 use Rattle.zielonka.specs.Lines.{text_of}
 use Rattle.zielonka.specs.Printed.{script_line}
-use Rattle.zielonka.proofs.GridLines.{lines-step, lines-end}
+use Rattle.zielonka.proofs.GridLines.{lines-step}
 use Rattle.zielonka.proofs.ScriptLemmas.{AreBelow, below-none, below-more, below-all, room-for}
 use Rattle.zielonka.proofs.read.scripts_of.Goals as goal
 

@@ -1,4 +1,4 @@
-use Rattle.std.proofs.Common.{◌≡◌, ◌≤◌, List, ℕ, [], ◌∷◌, drop, map, filter, codes, decimal, ap, ◌∙◌, arith}
+use Rattle.std.proofs.Common.{◌≤◌, List, ℕ, drop, map, filter, codes, decimal, ap, ◌∙◌, arith}
 use denote.Ref.{Bor}
 use Rattle.std.specs.List.{range_with_len}
 use Rattle.za_alpha.specs.Words.{has}

@@ -1,4 +1,4 @@
-use Rattle.std.proofs.Common.{◌≡◌, ◌≤◌, ◌++◌, ◌∷◌, [], codes, map, refl, arith}
+use Rattle.std.proofs.Common.{◌++◌, ◌∷◌, [], codes, map, refl, arith}
 use Rattle.zielonka.specs.Lines.{line, text_of}
 use Rattle.zielonka.specs.Printed.{letter_line, number_line}
 use Rattle.zielonka.proofs.NameLemmas.{names-printable}

@@ -1,4 +1,4 @@
-use Rattle.std.proofs.Common.{◌≡◌, length, ap, ◌∙◌}
+use Rattle.std.proofs.Common.{length, ap, ◌∙◌}
 use Rattle.za_alpha.specs.Alphabet.{DistributedAlphabet}
 use Rattle.zielonka.proofs.read.take_dfa.Goals as goal
 

@@ -1,12 +1,7 @@
-use Rattle.std.proofs.Common.{◌≡◌, ℕ, true, false, List, [], ◌∷◌, ◌++◌, length, map, codes, decimal, sym, ap, subst, ◌∙◌}
-use denote.Ref.{Bor}
-use Rattle.std.proofs.lemmas.List.{append-nil}
+use Rattle.std.proofs.Common.{List, ◌∷◌, map, codes, decimal, sym, ap, subst, ◌∙◌}
 use Rattle.za_alpha.specs.declared.alphabet.LetterRow.{LetterRow}
 use Rattle.za_alpha.specs.Procs.{members}
-use Rattle.za_alpha.specs.Alphabet.{NamedLetter}
-use Rattle.zielonka.specs.Lines.{line, text_of}
-use Rattle.zielonka.specs.Printed.{letter_line}
-use Rattle.zielonka.specs.Reading.{begins_letter, have_names, shown}
+use Rattle.zielonka.specs.Reading.{shown}
 use Rattle.zielonka.proofs.LetterLemmas.{TookLetters, TookLetter, took-none, took-more, took-all}
 use Rattle.zielonka.proofs.NameLemmas.{printable-letter}
 use Rattle.zielonka.proofs.read.take_letters.Goals as goal

@@ -1,13 +1,11 @@
-use Rattle.std.proofs.Common.{◌≡◌, ◌<◌, ◌-◌, ◌*◌, ◌+◌, ◌/◌, ◌%◌, ◌∷◌, [], ◌++◌, ℕ, List, length, map, sym, ap, subst, ◌∙◌, arith}
+use Rattle.std.proofs.Common.{◌≡◌, ◌<◌, ◌-◌, ◌*◌, ◌+◌, ◌/◌, ◌%◌, ◌∷◌, [], ◌++◌, ℕ, length, map, sym, ap, subst, ◌∙◌, arith}
 use Rattle.std.specs.List.{All, range_with_len}
 use Rattle.std.proofs.Math.Nat.{mod-lt}
 use Rattle.std.proofs.lemmas.List.Elements.{All-push}
 use Rattle.std.proofs.lemmas.List.FromFn.{map-range_with_len_more}
 use Rattle.za_dfa.specs.declared.rows.Row.{Row}
-use Rattle.za_dfa.specs.Tables.{CompleteDfa, IsComplete}
 use Rattle.za_dfa.proofs.GridLemmas.{row_of_cell}
 use Rattle.zielonka.specs.Lines.{text_of}
-use Rattle.zielonka.specs.Printed.{row_lines}
 use Rattle.zielonka.specs.Reading.{cell_row}
 use Rattle.zielonka.proofs.GridLines.{lines-step, lines-end}
 use Rattle.zielonka.proofs.ReadLemmas.{cell_line, cell-target, row_lines-cells}

@@ -1,4 +1,4 @@
-use Rattle.std.proofs.Common.{◌≡◌, ◌+◌, ◌≤◌, ◌<◌, ◌∷◌, [], ◌++◌, ℕ, List, length, map, drop, codes, decimal, sym, ap, ◌∙◌, arith}
+use Rattle.std.proofs.Common.{◌<◌, ◌∷◌, ℕ, List, length, map, drop, codes, decimal, ap, ◌∙◌, arith}
 use denote.Ref.{Bor}
 use Rattle.za_alpha.specs.Alphabet.{name_at}
 use Rattle.za_script.specs.ScriptLists.{script_of}

@@ -1,4 +1,4 @@
-use Rattle.std.proofs.Common.{◌≡◌, ◌<◌, ◌≤◌, ◌^◌, true, List, ℕ, [], ◌∷◌, get_or, codes, decimal, ap, ◌∙◌, arith, refl}
+use Rattle.std.proofs.Common.{◌<◌, ◌^◌, List, ℕ, [], ◌∷◌, get_or, codes, decimal, ap, ◌∙◌, arith, refl}
 use denote.Ref.{Bor}
 use Rattle.za_alpha.specs.Alphabet.{name_at}
 use Rattle.za_dfa.specs.Tables.{step_of}

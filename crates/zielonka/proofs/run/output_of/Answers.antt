@@ -1,4 +1,4 @@
-use Rattle.std.proofs.Common.{◌≡◌, List, ℕ, Result, Ok, Err, sym, ◌∙◌, subst}
+use Rattle.std.proofs.Common.{Result, Ok, Err, sym, ◌∙◌, subst}
 use Rattle.std.specs.Prelude.{IfOk}
 use Rattle.za_dfa.specs.Tables.{CompleteDfa}
 use Rattle.zielonka.specs.Output.{IsAnswered, IsOutput, NotPlain, NotBuilt, Answered}

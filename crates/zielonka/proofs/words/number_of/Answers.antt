@@ -1,4 +1,4 @@
-use Rattle.std.proofs.Common.{◌≡◌, ℕ, ◌<◌, ◌^◌, subst, sym, ap, ◌∙◌, arith, decimal}
+use Rattle.std.proofs.Common.{ℕ, ◌<◌, ◌^◌, subst, sym, ap, ◌∙◌, arith, decimal}
 use Rattle.std.specs.Result.{result_unwrap_or}
 use Rattle.std.specs.Str.{IsUtf8}
 use Rattle.std.proofs.lemmas.Str.{IsUtf8-from_ascii}

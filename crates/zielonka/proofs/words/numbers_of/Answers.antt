@@ -1,7 +1,6 @@
-use Rattle.std.proofs.Common.{◌≡◌, ◌<◌, ◌++◌, ◌∷◌, [], sym, ◌∙◌, ap, map, length, take, get_or, decimal, List, ℕ, arith}
+use Rattle.std.proofs.Common.{◌≡◌, ◌<◌, ◌++◌, ◌∷◌, [], sym, ◌∙◌, ap, length, take, get_or, decimal, List, ℕ, arith}
 use Rattle.std.proofs.lemmas.List.{take_more, get_or-map, length-map}
 use denote.Ref.{Bor}
-use Rattle.zielonka.specs.Reading.{shown}
 use Rattle.zielonka.proofs.words.numbers_of.Goals as goal
 
 pub loop-word-preserved : goal.loop-word-preserved

@@ -1,4 +1,4 @@
-use Rattle.std.proofs.Common.{◌≡◌, ◌==◌, ℕ, ap, ◌∙◌, append_assoc, [], ◌∷◌, ◌++◌}
+use Rattle.std.proofs.Common.{◌==◌, ap, ◌∙◌, append_assoc, [], ◌∷◌, ◌++◌}
 use Rattle.std.specs.List.{slice_split}
 use Rattle.zielonka.specs.Lines.{spaced}
 use Rattle.zielonka.proofs.WordLemmas.{one_line-words, split-line}

@@ -1,6 +1,6 @@
-use Rattle.std.proofs.Common.{◌≡◌, ◌<◌, ◌^◌, ◌∷◌, [], ℕ, List, Bool, true, get_or, ap, ◌∙◌, arith, decimal, refl}
+use Rattle.std.proofs.Common.{◌∷◌, [], ℕ, List, get_or, ap, ◌∙◌, arith, decimal}
 use denote.Ref.{Bor}
-use Rattle.zielonka.specs.Reading.{are_printable, shown}
+use Rattle.zielonka.specs.Reading.{shown}
 use Rattle.zielonka.proofs.WordLemmas.{printable-decimal, printable-two}
 use Rattle.zielonka.proofs.words.take_number_line.Goals as goal
 

@@ -1,4 +1,4 @@
-use Rattle.std.proofs.Common.{ap, sym, ◌∙◌}
+use Rattle.std.proofs.Common.{ap, ◌∙◌}
 use Rattle.zielonka.specs.Reading.{shown}
 use Rattle.zielonka.proofs.WordLemmas.{rest_of, shown-drop}
 use Rattle.zielonka.proofs.words.words_from.Goals as goal
