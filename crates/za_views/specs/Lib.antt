@@ -1,0 +1,5 @@
+pub mod Marks
+pub mod Events
+pub mod Newest
+pub mod Taken
+pub mod Kept

@@ -1,0 +1,13 @@
+//! Views by positions: for a word that grows event by event, what each process knows newest of
+//! the others, and the label of each event, exactly as defined. It is the plain side against which
+//! bounded labels are tested and journals audited.
+#![tactic(auto)]
+
+mod entries;
+mod events;
+mod labels;
+mod marks;
+#[cfg(test)]
+mod tests;
+
+pub use marks::Marks;
