@@ -3,7 +3,7 @@ use Rattle.std.proofs.Common.{◌≡◌, ℕ, ◌<◌, ◌≤◌, Bool, true, fa
 use Rattle.std.proofs.lemmas.Bool.{cases_lt}
 use Rattle.za_alpha.specs.Words.{has, least}
 use Rattle.za_alpha.specs.Procs.{IsLeastOf}
-use Rattle.za_order.proofs.Least.{least-true, least-le}
+use Rattle.za_alpha.proofs.Least.{least-true, least-le}
 use Rattle.za_views.specs.Taken.{IsFirstFree}
 
 -- the least of some processes, of which p is one, is no greater

@@ -9,7 +9,7 @@ use Rattle.za_alpha.specs.Procs.{members}
 use Rattle.za_alpha.specs.Alphabet.{DistributedAlphabet, IsDistributed, loc_of, procs_at}
 use Rattle.za_order.specs.Views.{participants}
 use Rattle.za_order.specs.Labels.{label}
-use Rattle.za_order.proofs.Least.{least-le}
+use Rattle.za_alpha.proofs.Least.{least-le}
 use Rattle.za_order.proofs.Participants.{IsOver, word-over}
 use Rattle.za_views.specs.declared.events.Event.{Event}
 use Rattle.za_views.specs.declared.marks.Marks.TheInside.{Inside}
