@@ -15,7 +15,7 @@ pub if-some : (P : ℕ → Type 0) (o : Option ℕ) → ((e : ℕ) → o ≡ Som
 if-some P None h = tt
 if-some P (Some e) h = h e refl
 
-module _ (loc : ℕ → List ℕ) (processes : ℕ) (w : List ℕ) (n : ℕ) (events : List Event) (own : List (Option ℕ)) (marked : AreMarked loc processes w n events own) where
+module _ {loc : ℕ → List ℕ} {processes : ℕ} {w : List ℕ} {n : ℕ} {events : List Event} {own : List (Option ℕ)} (marked : AreMarked loc processes w n events own) where
   -- one more step from entries that have happened
   step-is : (q : ℕ) (o : Option ℕ) → q < processes → ((e : ℕ) → o ≡ Some e → e < n) → option_and_then (λ e. known events e q) o ≡ option_and_then (λ e. last_in_past (participants loc w) e q) o
   step-is q o l below = then-same (λ e. known events e q) (λ e. last_in_past (participants loc w) e q) o (λ e h. marked.pasts e q (below e h) l)

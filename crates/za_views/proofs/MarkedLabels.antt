@@ -85,13 +85,13 @@ module _ (events : List Event) (processes letter k : ℕ) where
       (taken-step 0 w.third (step events w.second (step events w.first o)) w.third_below
       (here-taken (step events w.third (step events w.second (step events w.first o))) e w.leads w.letter_is w.label_is)))
 
-module _ (loc : ℕ → List ℕ) (letters processes : ℕ) (w : List ℕ) (n : ℕ) (events : List Event) (own : List (Option ℕ)) (marked : AreMarked loc processes w n events own) where
+module _ {loc : ℕ → List ℕ} {processes : ℕ} {w : List ℕ} {n : ℕ} {events : List Event} {own : List (Option ℕ)} (marked : AreMarked loc processes w n events own) where
   -- three steps from the last event of a process lead to its tertiary entry
   walk-is : (x q r s : ℕ) → x < processes → q < processes → r < processes → s < processes → step events s (step events r (step events q (entry own x))) ≡ tertiary (participants loc w) n x q r s
   walk-is x q r s lx lq lr ls =
-      ap (λ o. step events s (step events r o)) (first-is loc processes w n events own marked x q lx lq)
-      ∙ ap (step events s) (second-is loc processes w n events own marked x q r lr)
-      ∙ third-is loc processes w n events own marked x q r s ls
+      ap (λ o. step events s (step events r o)) (first-is marked x q lx lq)
+      ∙ ap (step events s) (second-is marked x q r lr)
+      ∙ third-is marked x q r s ls
 
   -- what is taken in three steps is the label of a tertiary entry
   taken-sound : (x k letter : ℕ) → x < processes → is_taken events processes letter k 3 (entry own x) ≡ true →
@@ -105,7 +105,7 @@ module _ (loc : ℕ → List ℕ) (letters processes : ℕ) (w : List ℕ) (n : 
       (t.0, (walk.first, walk.second, walk.third, is), sym (marked.letters t.0 below) ∙ walk.letter_is, sym (marked.labels t.0 below) ∙ walk.label_is)
 
   -- and each such label is taken
-  taken-complete : (x k letter e : ℕ) → IsOver loc letters processes w → n ≤ length w → x < processes → IsTertiary (participants loc w) n x e → slice_index w e ≡ letter → label loc processes w e ≡ k →
+  taken-complete : {letters : ℕ} (x k letter e : ℕ) → IsOver loc letters processes w → n ≤ length w → x < processes → IsTertiary (participants loc w) n x e → slice_index w e ≡ letter → label loc processes w e ≡ k →
       is_taken events processes letter k 3 (entry own x) ≡ true
   taken-complete x k letter e over ln lx t a b =
       let third = tertiary-sound (participants loc w) n x t.0 t.1 t.2 e t.3 in
@@ -137,14 +137,14 @@ module _ (loc : ℕ → List ℕ) (letters processes : ℕ) (w : List ℕ) (n : 
   -- so the events are labelled as the search for a label needs it
   pub are-labelled : processes ≤ MOST_PROCESSES → AreLabelled LABELS processes events
   are-labelled few = record {
-    rows = λ e l. subst (λ m. AreEvents m processes (event_at events e).past) (sym marked.count) (past-below loc processes w n events own marked e (let c = marked.count in omega arith));
+    rows = λ e l. subst (λ m. AreEvents m processes (event_at events e).past) (sym marked.count) (past-below marked e (let c = marked.count in omega arith));
     labels = λ e l. let b = label-below e few in let same = marked.labels e (let c = marked.count in omega arith) in omega arith;
   }
 
   -- the first that is not taken is the label of the event n
-  pub first-free-is : (x k : ℕ) → IsOver loc letters processes w → n < length w → processes ≤ MOST_PROCESSES → x ≡ least_participant loc processes w n →
+  pub first-free-is : {letters : ℕ} (x k : ℕ) → IsOver loc letters processes w → n < length w → processes ≤ MOST_PROCESSES → x ≡ least_participant loc processes w n →
       IsFirstFree (λ j. is_taken events processes (slice_index w n) j 3 (entry own x)) LABELS k → k ≡ label loc processes w n
-  first-free-is x k over ln few isx free =
+  first-free-is {letters = letters} x k over ln few isx free =
       let small = label-below n few in
       let takes = least_participant-takes loc letters processes w over n ln in
       let lx : x < processes = let b = over.below n (least_participant loc processes w n) ln takes in omega arith in

@@ -17,9 +17,9 @@ use Rattle.za_views.proofs.Knowledge.{joined-is}
 use Rattle.za_views.proofs.MarkedEntries.{first-is}
 
 -- the events that a word has are those of a longer one
-pub marked-longer : (loc : ℕ → List ℕ) (letters processes : ℕ) (w v : List ℕ) (n : ℕ) (events : List Event) (own : List (Option ℕ)) →
+pub marked-longer : {loc : ℕ → List ℕ} {letters processes : ℕ} {w v : List ℕ} {n : ℕ} {events : List Event} {own : List (Option ℕ)} →
     AreMarked loc processes w n events own → Agree loc letters processes n w v → AreMarked loc processes v n events own
-marked-longer loc letters processes w v n events own marked agree =
+marked-longer {loc = loc} {letters = letters} {processes = processes} {w = w} {v = v} {n = n} marked agree =
     let same : (j : ℕ) → j < n → participants loc w j ≡ participants loc v j = λ j l. ap loc (agree.same j l) in
     record {
       count = marked.count;
@@ -36,7 +36,7 @@ pub record IsNext (loc : ℕ → List ℕ) (processes : ℕ) (w : List ℕ) (n :
   pub past : (q : ℕ) → q < processes → IsJoined (participants loc w n) processes n q (known_by events own q) (entry event.past q)
   pub last : (p : ℕ) → p < processes → entry after p ≡ (if has (participants loc w n) p then Some n else entry own p)
 
-module _ (loc : ℕ → List ℕ) (letters processes : ℕ) (w : List ℕ) (n : ℕ) (events : List Event) (own : List (Option ℕ)) (event : Event) (after : List (Option ℕ))
+module _ {loc : ℕ → List ℕ} {letters processes : ℕ} {w : List ℕ} {n : ℕ} {events : List Event} {own : List (Option ℕ)} {event : Event} {after : List (Option ℕ)}
     (over : IsOver loc letters processes w) (long : n < length w)
     (marked : AreMarked loc processes w n events own) (next : IsNext loc processes w n events own event after) where
   -- the events before stay
@@ -56,7 +56,7 @@ module _ (loc : ℕ → List ℕ) (letters processes : ℕ) (w : List ℕ) (n : 
   past-is q lq =
       let p = over.some n long in
       joined-is (participants loc w) n p.0 q p.1 processes (known_by events own q) (entry event.past q) (λ s t. over.below n s long t)
-      (λ s l. first-is loc processes w n events own marked s q l lq) (next.past q lq)
+      (λ s l. first-is marked s q l lq) (next.past q lq)
 
   -- the last event of each process
   last-is : (p : ℕ) → p < processes → entry after p ≡ primary (participants loc w) (suc n) p p

@@ -46,13 +46,13 @@ push-of {inside = inside} {processes = processes} {events = events} {a = a} kept
   located = ap members located;
 }
 
-module _ (alphabet : DistributedAlphabet) (processes : ℕ) (takes : List ℕ) (events : List Event) (own : List (Option ℕ)) (a : ℕ) (push : IsPush alphabet processes takes events own a) where
+module _ {alphabet : DistributedAlphabet} {processes : ℕ} {takes : List ℕ} {events : List Event} {own : List (Option ℕ)} {a : ℕ} (push : IsPush alphabet processes takes events own a) where
   -- the longer word
   abbrev longer : List ℕ
   longer = word_of events ++ a ∷ []
 
   -- there are few processes
-  pub few : processes ≤ MOST_PROCESSES
+  few : processes ≤ MOST_PROCESSES
   few = let f = push.distributed.few_processes in let e = push.count in omega arith
 
   -- processes and letters make an alphabet
@@ -67,7 +67,7 @@ module _ (alphabet : DistributedAlphabet) (processes : ℕ) (takes : List ℕ) (
 
   -- own last events are events
   pub own-events : AreEvents (length events) processes own
-  own-events = own-among (loc_of alphabet) processes (word_of events) (length events) events own push.marked
+  own-events = own-among push.marked
 
   -- that of the least participant is
   pub least-event : (o : Option ℕ) → o ≡ entry own (least (λ p. has takes p) processes) → IfSome o (λ e. e < length events)
@@ -78,14 +78,14 @@ module _ (alphabet : DistributedAlphabet) (processes : ℕ) (takes : List ℕ) (
 
   -- the events are labelled
   pub labelled-events : AreLabelled LABELS processes events
-  labelled-events = are-labelled (loc_of alphabet) (length alphabet.letters) processes (word_of events) (length events) events own push.marked few
+  labelled-events = are-labelled push.marked few
 
   -- the word has a letter for each event
   length-word : length (word_of events) ≡ length events
   length-word = length-map events (λ (e : Event). e.letter.0)
 
   -- the longer word is one of the alphabet
-  pub word-longer : IsWord (length alphabet.letters) longer
+  word-longer : IsWord (length alphabet.letters) longer
   word-longer = let P : ℕ → Type 0 = λ b. b < length alphabet.letters in All-push P (word_of events) a push.word push.letter
 
   -- its events have participants
@@ -107,7 +107,7 @@ module _ (alphabet : DistributedAlphabet) (processes : ℕ) (takes : List ℕ) (
   -- the events are marked as those of the longer word
   marked-before : AreMarked (loc_of alphabet) processes longer (length events) events own
   marked-before =
-      marked-longer (loc_of alphabet) (length alphabet.letters) processes (word_of events) longer (length events) events own push.marked
+      marked-longer push.marked
       (record {
         first = word-over (loc_of alphabet) (length alphabet.letters) processes (word_of events) alphabet-is push.word;
         second = over-longer;
@@ -122,7 +122,7 @@ module _ (alphabet : DistributedAlphabet) (processes : ℕ) (takes : List ℕ) (
   pushed-label o k last free =
       let x : ℕ = least (λ p. has (participants (loc_of alphabet) longer (length events)) p) processes in
       let own_is : o ≡ entry own x = last ∙ ap (λ ps. entry own (least (λ p. has ps p) processes)) takes-last in
-      first-free-is (loc_of alphabet) (length alphabet.letters) processes longer (length events) events own marked-before x k over-longer last-there few refl
+      first-free-is marked-before x k over-longer last-there few refl
       (subst (λ b. IsFirstFree (λ j. is_taken events processes b j 3 (entry own x)) LABELS k) (sym letter-last)
       (subst (λ e. IsFirstFree (λ j. is_taken events processes a j 3 e) LABELS k) own_is free))
 
@@ -138,7 +138,7 @@ module _ (alphabet : DistributedAlphabet) (processes : ℕ) (takes : List ℕ) (
         past = subst (λ ps. (q : ℕ) → q < processes → IsJoined ps processes (length events) q (known_by events own q) (entry event.past q)) takes-last past;
         last = subst (λ ps. (p : ℕ) → p < processes → entry after p ≡ (if has ps p then Some (length events) else entry own p)) takes-last last;
       } in
-      let marked = marked-next (loc_of alphabet) (length alphabet.letters) processes longer (length events) events own event after over-longer last-there marked-before next in
+      let marked = marked-next over-longer last-there marked-before next in
       let word : word_of (events ++ event ∷ []) ≡ longer = map_push (λ (e : Event). e.letter.0) events event ∙ ap (λ b. word_of events ++ b ∷ []) letter in
       let count : length (events ++ event ∷ []) ≡ suc (length events) = omega (arith, length_push events event) in
       subst (λ es. AreMarked (loc_of alphabet) alphabet.processes (word_of es) (length es) es after) (sym pushed)
@@ -153,17 +153,17 @@ module _ (alphabet : DistributedAlphabet) (processes : ℕ) (takes : List ℕ) (
       subst (λ w. IsWord (length alphabet.letters) w) (sym (ap word_of pushed ∙ word)) word-longer
 
 -- the label in the words of a contract
-pub label-seen : (inside : Inside) (m : MarkedWord) (processes a : ℕ) (events : List Event) → marked_word inside ≡ m → processes ≡ inside.alphabet.processes → events ≡ inside.events.items →
+pub label-seen : (inside : Inside) (a : ℕ) {m : MarkedWord} {processes : ℕ} {events : List Event} → marked_word inside ≡ m → processes ≡ inside.alphabet.processes → events ≡ inside.events.items →
     label (loc_of inside.alphabet) processes (word_of events ++ a ∷ []) (length events) ≡ label (loc_of m.alphabet) m.alphabet.processes (m.word ++ a ∷ []) (length m.word)
-label-seen inside m processes a events view count same =
+label-seen inside a {events = events} view count same =
     ap (λ n. label (loc_of inside.alphabet) n (word_of events ++ a ∷ []) (length events)) count
     ∙ ap (λ es. label (loc_of inside.alphabet) inside.alphabet.processes (word_of es ++ a ∷ []) (length es)) same
     ∙ ap (label (loc_of inside.alphabet) inside.alphabet.processes (word_of inside.events.items ++ a ∷ [])) (sym (length-map inside.events.items (λ (e : Event). e.letter.0)))
     ∙ ap (λ (m : MarkedWord). label (loc_of m.alphabet) m.alphabet.processes (m.word ++ a ∷ []) (length m.word)) view
 
 -- there is room for the event
-pub pushed-short : (inside : Inside) (m : MarkedWord) (event : Event) (all : List Event) → marked_word inside ≡ m → length m.word < m.room → all ≡ inside.events.items ++ event ∷ [] → length all ≤ inside.room
-pushed-short inside m event all view room pushed =
+pub pushed-short : (inside : Inside) (event : Event) {m : MarkedWord} {all : List Event} → marked_word inside ≡ m → length m.word < m.room → all ≡ inside.events.items ++ event ∷ [] → length all ≤ inside.room
+pushed-short inside event view room pushed =
     let before : length (word_of inside.events.items) < inside.room = subst (λ m. length m.word < m.room) (sym view) room in
     let word = length-map inside.events.items (λ (e : Event). e.letter.0) in
     let count = ap length pushed in omega (arith, length_push inside.events.items event)

@@ -17,9 +17,9 @@ use za_alpha::{Alphabet, Letter, MOST_PROCESSES, OutOfMemory};
 /// positions, from 0 on.
 ///
 /// All memory is taken by `new`: a copy of the alphabet, and about 100 bytes for each event that
-/// there is room for. With n processes `push` makes about n^2 look-ups for what the event knows,
-/// and n + n^2 + n^3 for its label; each other call makes at most three. None of this grows with
-/// the length of the word.
+/// there is room for. With n processes `push` makes at most n^2 look-ups for what the event knows,
+/// and n + n^2 + n^3 for its label, with a row of marks of fixed length; each other call makes at
+/// most four. None of this grows with the length of the word.
 #[derive(Debug, Drop)]
 pub struct Marks {
     alphabet: Alphabet,

@@ -6,39 +6,39 @@ use Rattle.za_views.proofs.marks.Marks.push.Goals as goal
 pub past_of_next-past-requires-clause-within : goal.past_of_next-past-requires-clause-within
 past_of_next-past-requires-clause-within c =
     let push = push-of c.self.invariant c.self.view_is c.processes-processes.ensures.value c.loc-takes.ensures c.as_slice-events.ensures.value c.requires.letter in
-    own-events _ _ _ _ _ _ push
+    own-events push
 
 pub own_of_least-own-requires-clause-some : goal.own_of_least-own-requires-clause-some
 own_of_least-own-requires-clause-some c =
     let push = push-of c.self.invariant c.self.view_is c.processes-processes.ensures.value c.loc-takes.ensures c.as_slice-events.ensures.value c.requires.letter in
-    some-takes _ _ _ _ _ _ push
+    some-takes push
 
 pub free_label-label-requires-clause-within : goal.free_label-label-requires-clause-within
 free_label-label-requires-clause-within c =
     let push = push-of c.self.invariant c.self.view_is c.processes-processes.ensures.value c.loc-takes.ensures c.as_slice-events.ensures.value c.requires.letter in
-    least-event _ _ _ _ _ _ push c.own_of_least-own.result c.own_of_least-own.ensures
+    least-event push c.own_of_least-own.result c.own_of_least-own.ensures
 
 pub free_label-label-requires-clause-labelled : goal.free_label-label-requires-clause-labelled
 free_label-label-requires-clause-labelled c =
     let push = push-of c.self.invariant c.self.view_is c.processes-processes.ensures.value c.loc-takes.ensures c.as_slice-events.ensures.value c.requires.letter in
-    labelled-events _ _ _ _ _ _ push
+    labelled-events push
 
 pub invariant_of-self : goal.invariant_of-self
 invariant_of-self c =
     let push = push-of c.self.invariant c.self.view_is c.processes-processes.ensures.value c.loc-takes.ensures c.as_slice-events.ensures.value c.requires.letter in
     let event : Event = record { letter = c.args.a; label = c.free_label-label.result; past = c.past_of_next-past.result } in
     let all : c.push_reserved.new.self.items ≡ c.as_slice-events.result.now ++ event ∷ [] = c.push_reserved.ensures.items ∙ ap (λ es. es ++ event ∷ []) (sym c.as_slice-events.ensures.value) in
-    let labelled = pushed-label _ _ _ _ _ _ push c.own_of_least-own.result c.free_label-label.result c.own_of_least-own.ensures c.free_label-label.ensures in
+    let labelled = pushed-label push c.own_of_least-own.result c.free_label-label.result c.own_of_least-own.ensures c.free_label-label.ensures in
     record {
       alphabet = c.self.invariant.alphabet;
-      word = pushed-word _ _ _ _ _ _ push event c.push_reserved.new.self.items refl all;
-      short = pushed-short c.self.inside c.args.self.now event c.push_reserved.new.self.items c.self.view_is c.requires.room c.push_reserved.ensures.items;
+      word = pushed-word push event c.push_reserved.new.self.items refl all;
+      short = pushed-short c.self.inside event c.self.view_is c.requires.room c.push_reserved.ensures.items;
       reserved = omega arith;
-      marked = pushed-marked _ _ _ _ _ _ push event c.take_part.new.own c.push_reserved.new.self.items refl labelled c.past_of_next-past.ensures c.take_part.ensures all;
+      marked = pushed-marked push event c.take_part.new.own c.push_reserved.new.self.items refl labelled c.past_of_next-past.ensures c.take_part.ensures all;
     }
 
 pub returns-clause-label : goal.returns-clause-label
 returns-clause-label c =
     let push = push-of c.self.invariant c.self.view_is c.processes-processes.ensures.value c.loc-takes.ensures c.as_slice-events.ensures.value c.requires.letter in
-    pushed-label _ _ _ _ _ _ push c.own_of_least-own.result c.free_label-label.result c.own_of_least-own.ensures c.free_label-label.ensures
-    ∙ label-seen c.self.inside c.args.self.now c.processes-processes.result c.args.a.0 c.as_slice-events.result.now c.self.view_is c.processes-processes.ensures.value c.as_slice-events.ensures.value
+    pushed-label push c.own_of_least-own.result c.free_label-label.result c.own_of_least-own.ensures c.free_label-label.ensures
+    ∙ label-seen c.self.inside c.args.a.0 c.self.view_is c.processes-processes.ensures.value c.as_slice-events.ensures.value

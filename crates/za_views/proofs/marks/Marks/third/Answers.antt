@@ -8,9 +8,9 @@ use Rattle.za_views.proofs.marks.Marks.third.Goals as goal
 pub latest_in-requires-clause-within : goal.latest_in-requires-clause-within
 latest_in-requires-clause-within c =
     let marked = kept-marked c.self.invariant c.self.view_is c.as_slice.ensures.value in
-    second-among _ _ _ _ _ _ marked c.args.p c.args.q c.args.r c.second.result c.second.ensures
+    second-among marked c.args.p c.args.q c.args.r c.second.result c.second.ensures
 
 pub returns : goal.returns
 returns c =
     let marked = kept-marked c.self.invariant c.self.view_is c.as_slice.ensures.value in
-    c.latest_in.ensures ∙ ap (option_and_then (λ e. known c.as_slice.result.now e c.args.s)) c.second.ensures ∙ third-is _ _ _ _ _ _ marked c.args.p c.args.q c.args.r c.args.s c.requires.fourth
+    c.latest_in.ensures ∙ ap (option_and_then (λ e. known c.as_slice.result.now e c.args.s)) c.second.ensures ∙ third-is marked c.args.p c.args.q c.args.r c.args.s c.requires.fourth
