@@ -1,7 +1,12 @@
 pub mod Lists
 pub mod Prefixes
-pub mod Newest
+pub mod LatestNews
 pub mod Steps
 pub mod Numbers
 pub mod Updates
 mod Examples
+pub mod Places
+pub mod RowsOf
+pub mod Blocks
+pub mod Rising
+pub mod Inputs

@@ -9,7 +9,7 @@ use Rattle.za_order.proofs.Views.{view-sound, view-complete, past-sound, past-co
 use Rattle.za_order.proofs.Entries.{primary-sound, primary-some}
 use Rattle.za_order.proofs.Steps.{view-came, primary_of_participant, primary_joined, primary_kept}
 use Rattle.za_gossip.proofs.Prefixes.{greatest-same}
-use Rattle.za_gossip.proofs.Newest.{IsNewest}
+use Rattle.za_gossip.proofs.LatestNews.{IsNewest}
 
 module _ (who : ℕ → List ℕ) (n p : ℕ) where
   -- for a process q that takes no part, what the newest had

@@ -17,7 +17,7 @@ use Rattle.za_order.proofs.Steps.{primary_of_participant, primary_kept}
 use Rattle.za_gossip.specs.Updates.{newest, new_label, new_primary, new_secondary, new_tertiary, updated}
 use Rattle.za_gossip.specs.Laws.{ParticipantsUpdate, OthersKeep, NewLabelIsLabel}
 use Rattle.za_gossip.proofs.Prefixes.{primary-same, secondary-same, tertiary-same, label-same}
-use Rattle.za_gossip.proofs.Newest.{IsNewest, newest-some, best-newest}
+use Rattle.za_gossip.proofs.LatestNews.{IsNewest, newest-some, best-newest}
 use Rattle.za_gossip.proofs.Steps.{primary-newest, secondary-newest, tertiary-newest, secondary-own, tertiary-own, secondary-kept, tertiary-kept}
 use Rattle.za_gossip.proofs.Numbers.{newest-best, label-new}
 

@@ -1,3 +1,5 @@
 pub mod Rows
+pub mod Inside
+pub mod Levels
 pub mod Updates
 pub mod Laws

@@ -1,5 +1,5 @@
 -- What a process keeps of its entries (Mukund and Sohoni 1997): the rows of their numbers.
-use Rattle.std.specs.Prelude.{◌≡◌, ℕ, List, flat_map, map, length}
+use Rattle.std.specs.Prelude.{◌≡◌, ℕ, ◌*◌, List, flat_map, map, length, replicate, take, drop}
 use Rattle.std.specs.List.{range_with_len}
 use Rattle.za_alpha.specs.Words.{IsWord}
 use Rattle.za_alpha.specs.Alphabet.{DistributedAlphabet, loc_of}
@@ -29,3 +29,20 @@ rows_after loc processes w p = rows_of processes (ids loc processes w (length w)
 pub record AreRowsAfter (alphabet : DistributedAlphabet) (w : List ℕ) (a : ℕ) (inputs : List Rows) : Type 0 where
   pub word : IsWord (length alphabet.letters) w
   pub rows : inputs ≡ map (rows_after (loc_of alphabet) alphabet.processes w) (loc_of alphabet a)
+
+-- no event is known
+abbrev pub blank_rows : ℕ → Rows
+blank_rows processes = record {
+  primary = replicate processes 0;
+  secondary = replicate (processes * processes) 0;
+  tertiary = replicate (processes * processes * processes) 0;
+}
+
+-- the rows have an entry for each process, each pair and each triple
+pub record AreShaped (rows : Rows) : Type 0 where
+  pub secondary : length rows.secondary ≡ length rows.primary * length rows.primary
+  pub tertiary : length rows.tertiary ≡ length rows.primary * length rows.primary * length rows.primary
+
+-- the part of a list that is its q-th block of m
+abbrev pub block_at : ℕ → List ℕ → ℕ → List ℕ
+block_at m xs q = take m (drop (q * m) xs)

@@ -2,6 +2,10 @@
 //! bounded numbers alone.
 #![tactic(auto)]
 
+mod gossip;
 mod laws;
+mod news;
 
+pub use gossip::Gossip;
 pub use laws::{numbers_after_an_event, numbers_suffice};
+pub use news::newest;
