@@ -1,6 +1,5 @@
 -- The definitions computed on small words.
 use Rattle.std.proofs.Common.{◌≡◌, ℕ, zero, suc, List, [], ◌∷◌, refl, replicate}
-use Rattle.za_order.specs.Labels.{number_of}
 use Rattle.za_order.specs.Locals.{ids}
 use Rattle.za_gossip.specs.Rows.{rows_of, rows_after}
 use Rattle.za_gossip.specs.Updates.{newest, new_label, updated}

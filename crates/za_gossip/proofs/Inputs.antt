@@ -1,5 +1,5 @@
 -- What the rows of the participants hold.
-use Rattle.std.proofs.Common.{◌≡◌, ℕ, suc, zero, ◌+◌, ◌*◌, ◌<◌, ◌≤◌, Bool, true, false, ◌||◌, ◌==◌, ◌⊎◌, inl, inr, List, [], ◌∷◌, ◌++◌, length, get_or, slice_index, take, map, Option, Some, None, refl, sym, ap, subst, ◌∙◌, arith}
+use Rattle.std.proofs.Common.{◌≡◌, ℕ, ◌+◌, ◌*◌, ◌<◌, ◌≤◌, Bool, true, false, ◌||◌, ◌==◌, inl, inr, List, [], ◌∷◌, length, get_or, slice_index, take, map, Option, Some, refl, sym, ap, subst, ◌∙◌, arith}
 use Rattle.std.specs.List.{range_with_len, list_any, slice_get}
 use Rattle.std.specs.Option.{option_map_or}
 use Rattle.std.proofs.Math.Seq.{take-length}
@@ -19,7 +19,7 @@ use Rattle.za_gossip.proofs.LatestNews.{IsLeastNewest, IsMore, least-single, lea
 use Rattle.za_gossip.proofs.Numbers.{seen}
 use Rattle.za_gossip.proofs.Places.{any-same}
 use Rattle.za_gossip.proofs.Blocks.{entry-of-block}
-use Rattle.za_gossip.proofs.Rising.{IsRising, rising-members, has-place}
+use Rattle.za_gossip.proofs.Rising.{rising-members, has-place}
 
 -- of the first y participants of a, that at i is the least that knows the latest event of r that each of them knows
 abbrev pub IsBestOf : DistributedAlphabet → ℕ → List ℕ → ℕ → ℕ → ℕ → Type 0

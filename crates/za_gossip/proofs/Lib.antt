@@ -10,3 +10,7 @@ pub mod RowsOf
 pub mod Blocks
 pub mod Rising
 pub mod Inputs
+pub mod SourceLists
+pub mod LevelRows
+pub mod Sizes
+pub mod Advanced

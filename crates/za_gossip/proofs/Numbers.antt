@@ -1,14 +1,14 @@
 -- What numbers tell of entries: whose they are, and who knows which.
-use Rattle.std.proofs.Common.{◌≡◌, ◌≢◌, ℕ, suc, zero, ◌+◌, ◌^◌, ◌<◌, ◌≤◌, Bool, true, false, not, ◌&&◌, ◌||◌, ◌==◌, inl, inr, List, [], ◌∷◌, length, slice_index, map, flat_map, Option, Some, None, refl, sym, ap, subst, ◌∙◌, arith, eqb-true, eq-eqb, ne_eqb}
+use Rattle.std.proofs.Common.{◌≡◌, ℕ, ◌+◌, ◌^◌, ◌<◌, ◌≤◌, Bool, true, false, not, ◌&&◌, ◌||◌, ◌==◌, inl, inr, List, [], ◌∷◌, length, slice_index, map, flat_map, Some, sym, ap, subst, ◌∙◌, arith, eqb-true, eq-eqb, ne_eqb}
 use Rattle.std.specs.List.{range_with_len, list_any, list_all}
 use Rattle.std.specs.Option.{option_map_or}
 use Rattle.std.proofs.Math.Path.{fun_ext}
-use Rattle.std.proofs.lemmas.Bool.{cases_Bool, cases_order, or_left, or_right, not-true, not_from_true, not_from_false}
+use Rattle.std.proofs.lemmas.Bool.{cases_Bool, cases_order, or_left, not_from_true, not_from_false}
 use Rattle.za_alpha.specs.Words.{has, least, IsAlphabet, IsWord}
 use Rattle.za_order.specs.Views.{participants, in_view, Here}
 use Rattle.za_order.specs.Entries.{primary, last_in_past, secondary, tertiary}
 use Rattle.za_order.specs.Labels.{least_participant, label, number_of, number}
-use Rattle.za_order.specs.Locals.{Ids, ids, knows_latest, best}
+use Rattle.za_order.specs.Locals.{Ids, ids, best}
 use Rattle.za_order.proofs.Options.{option-cases, some-then}
 use Rattle.za_order.proofs.Sets.{same-test, any-here, any-where, has-map, has-flat_map, in-range}
 use Rattle.za_order.proofs.Chains.{chain-le}
@@ -70,13 +70,13 @@ module _ (loc : ℕ → List ℕ) (letters processes : ℕ) (w : List ℕ) (alph
       let own = primary-secondary who n y r e h in
       same-test (list_any test (range_with_len 0 processes)) (in_view who n (x ∷ []) e)
       (λ a.
-          let q = any-where test (range_with_len 0 processes) a in
-          let same = eqb-true ((known x).secondary q.0 r) ((known y).primary r) q.2 in
-          newer.1 (q.0, numbers_tell_apart loc letters processes w n x q.0 r y r r alphabet word l (same ∙ ap (number loc processes w) (h ∙ sym own)) ∙ own))
+      let q = any-where test (range_with_len 0 processes) a in
+      let same = eqb-true ((known x).secondary q.0 r) ((known y).primary r) q.2 in
+      newer.1 (q.0, numbers_tell_apart loc letters processes w n x q.0 r y r r alphabet word l (same ∙ ap (number loc processes w) (h ∙ sym own)) ∙ own))
       (λ v.
-          let s = newer.0 v in
-          any-here test (range_with_len 0 processes) s.0 (in-range processes s.0 (secondary-processes loc letters processes w over n l x s.0 r e s.1).0)
-          (eq-eqb ((known x).secondary s.0 r) ((known y).primary r) (ap (number loc processes w) (s.1 ∙ sym h))))
+      let s = newer.0 v in
+      any-here test (range_with_len 0 processes) s.0 (in-range processes s.0 (secondary-processes loc letters processes w over n l x s.0 r e s.1).0)
+      (eq-eqb ((known x).secondary s.0 r) ((known y).primary r) (ap (number loc processes w) (s.1 ∙ sym h))))
 
   -- so the test by numbers is the test by views
   pub seen : (r x y : ℕ) → has_seen processes known r x y ≡ option_map_or (λ e. in_view who n (x ∷ []) e) (primary who n y r) true
@@ -101,7 +101,7 @@ pub newest_is_best : NewestIsBest
 newest_is_best loc letters processes w xs r alphabet word = newest-best loc letters processes w alphabet word (length w) (omega arith) xs r
 
 -- the least number that passes is the one below which none does
-least-is : (test : ℕ → Bool) (n k : ℕ) → k < n → test k ≡ true → ((j : ℕ) → j < k → test j ≡ false) → least test n ≡ k
+pub least-is : (test : ℕ → Bool) (n k : ℕ) → k < n → test k ≡ true → ((j : ℕ) → j < k → test j ≡ false) → least test n ≡ k
 least-is test n k l h none =
     let le = least-le test n k h in
     elim (cases_order (least test n) k) [
@@ -163,9 +163,9 @@ label-new loc letters processes w over n l =
           ]
     ] in
     let taken : (k : ℕ) → k < b → has row (number_of processes a k) ≡ true = λ k lt.
-        let d = label-least loc processes w n k lt in
-        let h = tertiary-to loc letters processes w over n (omega arith) x d.1.0 d.1.1 d.1.2 d.0 d.1.3 in
-        subst (λ v. has row v ≡ true) (ap (λ v. number_of processes v (label loc processes w d.0)) d.2 ∙ ap (λ v. number_of processes a v) d.3) h in
+    let d = label-least loc processes w n k lt in
+    let h = tertiary-to loc letters processes w over n (omega arith) x d.1.0 d.1.1 d.1.2 d.0 d.1.3 in
+    subst (λ v. has row v ≡ true) (ap (λ v. number_of processes v (label loc processes w d.0)) d.2 ∙ ap (λ v. number_of processes a v) d.3) h in
     least-is (λ k. not (has row (number_of processes a k))) (processes ^ 3 + 1) b (omega arith)
     (not_from_false (has row (number_of processes a b)) free)
     (λ k lt. not_from_true (has row (number_of processes a k)) (taken k lt))

@@ -1,10 +1,9 @@
 -- The rows of numbers.
-use Rattle.std.proofs.Common.{◌≡◌, ℕ, zero, suc, ◌+◌, ◌*◌, List, [], ◌∷◌, ◌++◌, length, map, flat_map, replicate, refl, sym, ap, ◌∙◌, arith}
+use Rattle.std.proofs.Common.{◌≡◌, ℕ, zero, suc, ◌+◌, ◌*◌, List, [], ◌∷◌, ◌++◌, map, flat_map, replicate, refl, sym, ap, ◌∙◌, arith}
 use Rattle.std.specs.List.{range_with_len}
 use Rattle.std.proofs.Math.Nat.{suc-mul, mul_assoc}
 use Rattle.std.proofs.lemmas.List.{replicate-append-replicate}
-use Rattle.za_order.specs.Locals.{ids}
-use Rattle.za_gossip.specs.Rows.{Rows, rows_of, rows_after, blank_rows}
+use Rattle.za_gossip.specs.Rows.{Rows, rows_after, blank_rows}
 
 -- equal rows
 pub same-rows : (a b : Rows) → a.primary ≡ b.primary → a.secondary ≡ b.secondary → a.tertiary ≡ b.tertiary → a ≡ b

@@ -1,8 +1,8 @@
 -- The entries of the participants after an event n, and of the other processes.
-use Rattle.std.proofs.Common.{◌≡◌, ℕ, suc, ◌≤◌, true, false, ◌&&◌, inl, inr, List, [], ◌∷◌, Some, None, option_and_then, sym, ap, subst, ◌∙◌, arith}
+use Rattle.std.proofs.Common.{◌≡◌, ℕ, suc, true, false, ◌&&◌, inl, inr, List, [], ◌∷◌, Some, None, option_and_then, sym, ap, subst, ◌∙◌, arith}
 use Rattle.za_alpha.specs.Words.{has}
 use Rattle.za_order.specs.Views.{in_view, in_past, Chain, Here, Then}
-use Rattle.za_order.specs.Entries.{greatest, primary, last_in_past, secondary, tertiary}
+use Rattle.za_order.specs.Entries.{primary, last_in_past, secondary, tertiary}
 use Rattle.za_order.proofs.Options.{option-cases, never-some}
 use Rattle.za_order.proofs.Sets.{same-test, single-has, has-own}
 use Rattle.za_order.proofs.Views.{view-sound, view-complete, past-sound, past-complete}

@@ -19,9 +19,9 @@ const NO_EVENT: EventId = EventId(0);
 /// tertiary entry for `q`, `r` and `s` the latest event of `s` in the past of the secondary one.
 #[derive(Debug, Drop)]
 pub struct Gossip {
-    primary: Vec<EventId>,
-    secondary: Vec<EventId>,
-    tertiary: Vec<EventId>,
+    pub(crate) primary: Vec<EventId>,
+    pub(crate) secondary: Vec<EventId>,
+    pub(crate) tertiary: Vec<EventId>,
 }
 
 impl Model for Gossip {

@@ -5,7 +5,9 @@
 mod gossip;
 mod laws;
 mod news;
+mod updating;
 
 pub use gossip::Gossip;
 pub use laws::{numbers_after_an_event, numbers_suffice};
 pub use news::newest;
+pub use updating::advance;

@@ -1,5 +1,4 @@
-use Rattle.std.proofs.Common.{◌≡◌, ℕ, ◌*◌, List, replicate, map, sym, ap, ◌∙◌}
-use Rattle.za_ids.specs.declared.ids.EventId.{EventId}
+use Rattle.std.proofs.Common.{ℕ, ◌*◌, ap, ◌∙◌}
 use Rattle.za_ids.specs.Numbers.{event_numbers}
 use Rattle.za_gossip.specs.Rows.{blank_rows}
 use Rattle.za_gossip.proofs.Places.{no-events}
