@@ -3,7 +3,7 @@ ghost use Rattle.za_alpha.specs.Words.{has};
 ghost use Rattle.za_order.specs.Labels.{number_of};
 ghost use Rattle.za_ids.specs.Numbers.{event_numbers};
 
-use crate::ids::{id_of, label_count, EventId};
+use crate::ids::{EventId, id_of, label_count};
 use za_alpha::{Letter, MOST_LETTERS, MOST_PROCESSES};
 
 /// How many labels a letter has with the most processes.

@@ -4,6 +4,8 @@
 
 mod ids;
 mod labels;
+#[cfg(test)]
+mod tests;
 
-pub use ids::{id_of, label_of, letter_of, EventId};
+pub use ids::{EventId, id_of, label_of, letter_of};
 pub use labels::least_free;

@@ -1,4 +1,4 @@
-use Rattle.std.proofs.Common.{◌≡◌, ◌+◌, ◌^◌, ◌≤◌, ◌∙◌, sym, subst, refl, arith, Some}
+use Rattle.std.proofs.Common.{◌≡◌, ◌+◌, ◌^◌, ◌∙◌, sym, subst, arith, Some}
 use Rattle.za_order.specs.Labels.{number_of}
 use Rattle.za_ids.proofs.Numbers.{cube-small}
 use Rattle.za_ids.proofs.Marks.{AreMarked, marks-none, marks-keep, marks-set}

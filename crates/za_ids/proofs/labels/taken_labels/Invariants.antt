@@ -1,4 +1,4 @@
-use Rattle.std.proofs.Common.{◌≡◌, ◌^◌, ◌+◌, length}
+use Rattle.std.proofs.Common.{◌^◌}
 use Rattle.za_order.specs.Labels.{number_of}
 use Rattle.za_ids.proofs.Marks.{AreMarked}
 use Rattle.za_ids.proofs.labels.taken_labels.Given as goal
