@@ -1,0 +1,13 @@
+//! Gossip: what the processes of a distributed automaton know of each other's latest events, by
+//! bounded numbers alone.
+#![tactic(auto)]
+
+mod gossip;
+mod laws;
+mod news;
+mod updating;
+
+pub use gossip::Gossip;
+pub use laws::{numbers_after_an_event, numbers_suffice};
+pub use news::newest;
+pub use updating::advance;

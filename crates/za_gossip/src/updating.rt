@@ -1,0 +1,117 @@
+ghost use Rattle.std.specs.Prelude.{◌≡◌, ℕ, ◌*◌, ◌<◌, ◌≤◌, All, List, [], ◌∷◌, ◌++◌, length, map, slice_index_or, Some, None, IsTrue};
+ghost use Rattle.std.specs.List.{range_with_len};
+ghost use Rattle.za_alpha.specs.Words.{has};
+ghost use Rattle.za_alpha.specs.Alphabet.{loc_of};
+ghost use Rattle.za_order.specs.Labels.{label};
+ghost use Rattle.za_ids.specs.Numbers.{event_numbers};
+ghost use Rattle.za_gossip.specs.Rows.{rows_after, AreRowsAfter};
+ghost use Rattle.za_gossip.specs.Levels.{level_of};
+ghost use Rattle.za_gossip.specs.Sources.{IsSource, joined_entry};
+
+use crate::gossip::{Gossip, Level};
+use crate::news::newest;
+use za_alpha::{Alphabet, Letter, MOST_PROCESSES};
+use za_ids::{EventId, id_of, least_free};
+
+/// What the participants of `a` keep after their event: writes it into `into`, and answers the label
+/// of the event. `inputs` has what each participant keeps after some word, in rising order of
+/// processes, and `into` is for as many processes; what it held before doesn't matter. All
+/// participants get the same numbers, and all other processes keep theirs. Numbers are only tested
+/// for equality (Mukund and Sohoni 1997). It takes no memory, and time in the order of the number of
+/// tertiary entries.
+pub fn advance(alphabet: &Alphabet, a: Letter, inputs: &[Gossip], into: &mut Gossip) -> u16
+    requires letter { a.0 < length alphabet.now.letters }
+    requires rows { (w : List ℕ) × AreRowsAfter alphabet.now w a.0 inputs.now }
+    requires shape { length into.old.primary ≡ alphabet.now.processes }
+    ensures label { (w : List ℕ) → AreRowsAfter alphabet.now w a.0 inputs.now →
+        result ≡ label (loc_of alphabet.now) alphabet.now.processes (w ++ a.0 ∷ []) (length w) }
+    ensures rows { (w : List ℕ) → AreRowsAfter alphabet.now w a.0 inputs.now → (x : ℕ) → IsTrue (has (loc_of alphabet.now a.0) x) →
+        into.new ≡ rows_after (loc_of alphabet.now) alphabet.now.processes (w ++ a.0 ∷ []) x }
+{
+    let n = alphabet.processes();
+    let label = least_free(n, a, inputs[0].tertiary());
+    let event = [id_of(n, a, label)];
+    let sources = sources(alphabet, a, inputs);
+    write_row(
+        Level::Primary,
+        sources.as_slice(),
+        inputs,
+        event.as_slice(),
+        into.primary.as_mut_slice(),
+    );
+    write_row(
+        Level::Secondary,
+        sources.as_slice(),
+        inputs,
+        into.primary.as_slice(),
+        into.secondary.as_mut_slice(),
+    );
+    write_row(
+        Level::Tertiary,
+        sources.as_slice(),
+        inputs,
+        into.secondary.as_slice(),
+        into.tertiary.as_mut_slice(),
+    );
+    label
+}
+
+/// For each process, where the entries for it come from after the event of the participants of `a`:
+/// none for a participant, whose latest event this is, and else the index of the input that has the
+/// latest news of it.
+fn sources(alphabet: &Alphabet, a: Letter, inputs: &[Gossip]) -> [Option<usize>; MOST_PROCESSES]
+    requires letter { a.0 < length alphabet.now.letters }
+    requires rows { (w : List ℕ) × AreRowsAfter alphabet.now w a.0 inputs.now }
+    ensures room { alphabet.now.processes ≤ length result }
+    ensures within { (q b : ℕ) → slice_index_or result q None ≡ Some b → b < length inputs.now }
+    ensures sources { (w : List ℕ) → AreRowsAfter alphabet.now w a.0 inputs.now → (q : ℕ) → q < alphabet.now.processes → IsSource alphabet.now w a.0 q (slice_index_or result q None) }
+{
+    let participants = alphabet.loc(a);
+    let mut sources = [None; MOST_PROCESSES];
+    for q in 0..alphabet.processes() {
+        if !participants.has(q) {
+            sources[q] = Some(newest(alphabet, a, inputs, q));
+        }
+    }
+    sources
+}
+
+/// The entry `i` of a row after the event. The row has a block for each process, as long as `own`,
+/// which is the block of each participant.
+fn entry_after(
+    level: Level,
+    sources: &[Option<usize>],
+    inputs: &[Gossip],
+    own: &[EventId],
+    i: usize,
+) -> EventId
+    requires some_own { 0 < length own.now }
+    requires place { i < length sources.now * length own.now }
+    requires within { (q b : ℕ) → slice_index_or sources.now q None ≡ Some b → b < length inputs.now }
+    requires rows { All (λ rows. i < length (level_of level rows)) inputs.now }
+    ensures { result.0 ≡ joined_entry (event_numbers own.now) sources.now (map (level_of level) inputs.now) i }
+{
+    match sources[i / own.len()] {
+        None => own[i % own.len()],
+        Some(best) => inputs[best].entries(level)[i],
+    }
+}
+
+/// Writes a row after the event.
+fn write_row(
+    level: Level,
+    sources: &[Option<usize>],
+    inputs: &[Gossip],
+    own: &[EventId],
+    into: &mut [EventId],
+)
+    requires some_own { 0 < length own.now }
+    requires blocks { length into.old ≤ length sources.now * length own.now }
+    requires within { (q b : ℕ) → slice_index_or sources.now q None ≡ Some b → b < length inputs.now }
+    requires rows { All (λ rows. length into.old ≤ length (level_of level rows)) inputs.now }
+    ensures { event_numbers into.new ≡ map (joined_entry (event_numbers own.now) sources.now (map (level_of level) inputs.now)) (range_with_len 0 (length into.old)) }
+{
+    for (i, entry) in into.iter_mut().enumerate() {
+        *entry = entry_after(level, sources, inputs, own, i);
+    }
+}

@@ -1,0 +1,11 @@
+//! Numbers of events: one number for each letter and label, and the least label whose number a
+//! list doesn't have.
+#![tactic(auto)]
+
+mod ids;
+mod labels;
+#[cfg(test)]
+mod tests;
+
+pub use ids::{EventId, id_of, label_of, letter_of};
+pub use labels::least_free;
