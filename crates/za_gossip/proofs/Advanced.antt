@@ -75,12 +75,6 @@ module _ (alphabet : DistributedAlphabet) (a : ℕ) (whole : IsDistributed alpha
             ∙ ap (λ x. level_of level (rows_of n (known x))) place,
       )
 
-  -- the rows of the participants after the event
-  pub rows-next : (x : ℕ) → has xs x ≡ true → rows_of n (updated n xs a known) ≡ rows_after loc n (w ++ a ∷ []) x
-  rows-next x h =
-      ap (rows_of n) (sym (ids-after loc (length alphabet.letters) n w a whole.located given.word small x h))
-      ∙ ap (λ m. rows_of n (ids loc n (w ++ a ∷ []) m x)) (let e : suc (length w) ≡ length (w ++ a ∷ []) = omega (arith, length-append w (a ∷ [])) in e)
-
   -- a row after the event, as it is written
   pub row-written : (level : Level) (own : List ℕ) (sources : List (Option ℕ)) (size : ℕ) → size ≡ n * width level n → own ≡ own_block n xs a known level →
       ((q b : ℕ) → get_or sources q None ≡ Some b → b < length inputs) → ((q : ℕ) → q < n → IsSource alphabet w a q (get_or sources q None)) →

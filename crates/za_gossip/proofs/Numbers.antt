@@ -15,7 +15,7 @@ use Rattle.za_order.proofs.Chains.{chain-le}
 use Rattle.za_order.proofs.Participants.{IsOver, word-over}
 use Rattle.za_order.proofs.Entries.{primary-sound, primary-below, last_in_past-complete, secondary-sound, secondary-below, tertiary-sound, tertiary-below}
 use Rattle.za_order.proofs.ViewLaws.{newer_by_secondary}
-use Rattle.za_order.proofs.Least.{least-true, least-le}
+use Rattle.za_alpha.proofs.Least.{least-true, least-le}
 use Rattle.za_order.proofs.Labels.{label-free, label-least, labels_are_bounded}
 use Rattle.za_order.proofs.Numbers.{number_of-parts, number-some, numbers_tell_apart}
 use Rattle.za_gossip.specs.Rows.{rows_of}

@@ -1,11 +1,13 @@
 -- The members of a set of processes stand in rising order.
-use Rattle.std.proofs.Common.{◌≡◌, ℕ, zero, suc, ◌+◌, ◌<◌, ◌≤◌, Bool, true, ◌==◌, inl, inr, List, [], ◌∷◌, length, get_or, take, filter, refl, sym, subst, arith}
+use Rattle.std.proofs.Common.{◌≡◌, ℕ, zero, suc, ◌+◌, ◌<◌, ◌≤◌, Bool, true, false, ◌==◌, ◌++◌, cond, inl, inr, List, [], ◌∷◌, length, get_or, take, filter, map, refl, sym, ap, subst, ◌∙◌, arith, add-one}
 use Rattle.std.specs.List.{range_with_len}
 use Rattle.std.specs.Int.{bit_at}
-use Rattle.std.proofs.lemmas.Bool.{cases_Bool, cond-true, cond-false}
+use Rattle.std.proofs.lemmas.Bool.{cases_Bool, cases_eq, cond-true, cond-false}
+use Rattle.std.proofs.lemmas.List.{append-nil, map-append}
 use Rattle.za_alpha.specs.declared.procs.Procs.{Procs}
 use Rattle.za_alpha.specs.Words.{has}
 use Rattle.za_alpha.specs.Procs.{members, members_below}
+use Rattle.za_alpha.proofs.Members.{members_below-more}
 use Rattle.za_order.proofs.Sets.{has-cases, has-here, has-there}
 
 -- each element is above those before it, and none is below the first
@@ -63,3 +65,31 @@ module _ (test : ℕ → Bool) where
 pub rising-members : (s : Procs) → IsRising (members s)
 unfolding members_below
 rising-members s = rising-range (λ q. bit_at s.0 q == 1) 0 16
+
+-- a set has no others than those below a number that is above all
+pub members-fit : (s : Procs) (n : ℕ) → n ≤ 16 → ((p : ℕ) → has (members s) p ≡ true → p < n) → members_below s n ≡ members s
+members-fit s n l h = sym (fit 16 l (omega arith))
+  where
+    fit : (k : ℕ) → n ≤ k → k ≤ 16 → members_below s k ≡ members_below s n
+    fit zero le few = let e : n ≡ 0 = omega arith in ap (members_below s) (sym e)
+    fit (suc k) le few =
+        elim (cases_eq n (suc k)) [
+          | inl e ↦ ap (members_below s) (sym e)
+          | inr ne ↦
+              let out : has (members s) k ≡ false = elim (cases_Bool (has (members s) k)) [
+                | inl t ↦ absurd (let low = h k t in omega arith)
+                | inr f ↦ f
+              ] in
+              let rest : members_below s k ++ cond (has (members s) k) (k ∷ []) [] ≡ members_below s k =
+              ap (λ xs. members_below s k ++ xs) (cond-false (has (members s) k) (k ∷ []) [] out) ∙ append-nil (members_below s k) in
+              ap (members_below s) (sym (add-one k)) ∙ members_below-more s k (omega arith) ∙ rest ∙ fit k (omega arith) (omega arith)
+        ]
+
+-- what a function makes of the members below n + 1, from those below n
+pub map-members-in : {X : Type 0} (f : ℕ → X) (s : Procs) (n : ℕ) → n < 16 → has (members s) n ≡ true → map f (members_below s (n + 1)) ≡ map f (members_below s n) ++ f n ∷ []
+map-members-in f s n l h =
+    ap (map f) (members_below-more s n l ∙ ap (λ xs. members_below s n ++ xs) (cond-true (has (members s) n) (n ∷ []) [] h)) ∙ map-append f (members_below s n) (n ∷ [])
+
+pub map-members-out : {X : Type 0} (f : ℕ → X) (s : Procs) (n : ℕ) → n < 16 → has (members s) n ≡ false → map f (members_below s (n + 1)) ≡ map f (members_below s n)
+map-members-out f s n l h =
+    ap (map f) (members_below-more s n l ∙ ap (λ xs. members_below s n ++ xs) (cond-false (has (members s) n) (n ∷ []) [] h) ∙ append-nil (members_below s n))

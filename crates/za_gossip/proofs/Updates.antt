@@ -14,6 +14,7 @@ use Rattle.za_order.proofs.Participants.{IsOver, word-over}
 use Rattle.za_order.proofs.Entries.{primary-sound, primary-below, secondary-sound, secondary-below, tertiary-sound, tertiary-below}
 use Rattle.za_order.proofs.Equivalent.{same-ids}
 use Rattle.za_order.proofs.Steps.{primary_of_participant, primary_kept}
+use Rattle.za_gossip.specs.Rows.{rows_of, rows_after}
 use Rattle.za_gossip.specs.Updates.{newest, new_label, new_primary, new_secondary, new_tertiary, updated}
 use Rattle.za_gossip.specs.Laws.{ParticipantsUpdate, OthersKeep, NewLabelIsLabel}
 use Rattle.za_gossip.proofs.Prefixes.{primary-same, secondary-same, tertiary-same, label-same}
@@ -145,6 +146,13 @@ module _ (loc : ℕ → List ℕ) (letters processes : ℕ) (w : List ℕ) (a : 
 
   pub ids-kept : (p : ℕ) → has (loc a) p ≡ false → ids loc processes wa (suc (length w)) p ≡ ids loc processes w (length w) p
   ids-kept p h = kept-at loc letters processes wa alphabet word-next (length w) (omega (arith, length-next)) p (at-seam p ∙ h) ∙ ids-before p
+
+  -- and so are the rows
+  pub rows-after : (p : ℕ) → has (loc a) p ≡ true → rows_of processes (updated processes (loc a) a (ids loc processes w (length w))) ≡ rows_after loc processes wa p
+  rows-after p h = ap (rows_of processes) (sym (ids-after p h)) ∙ ap (λ m. rows_of processes (ids loc processes wa m p)) (sym length-next)
+
+  pub rows-kept : (p : ℕ) → has (loc a) p ≡ false → rows_after loc processes w p ≡ rows_after loc processes wa p
+  rows-kept p h = ap (rows_of processes) (sym (ids-kept p h)) ∙ ap (λ m. rows_of processes (ids loc processes wa m p)) (sym length-next)
 
 -- in the words of the laws
 pub participants_update : ParticipantsUpdate

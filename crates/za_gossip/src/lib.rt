@@ -5,6 +5,8 @@
 mod gossip;
 mod laws;
 mod news;
+#[cfg(test)]
+mod tests;
 mod updating;
 
 pub use gossip::Gossip;

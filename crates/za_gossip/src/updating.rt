@@ -29,7 +29,7 @@ pub fn advance(alphabet: &Alphabet, a: Letter, inputs: &[Gossip], into: &mut Gos
         into.new ≡ rows_after (loc_of alphabet.now) alphabet.now.processes (w ++ a.0 ∷ []) x }
 {
     let n = alphabet.processes();
-    let label = least_free(n, a, inputs[0].tertiary());
+    let label = least_free(n, a, inputs[0].entries(Level::Tertiary));
     let event = [id_of(n, a, label)];
     let sources = sources(alphabet, a, inputs);
     write_row(

@@ -17,14 +17,14 @@ use Rattle.za_gossip.specs.Rows.{Rows, AreRowsAfter, rows_of}
 use Rattle.za_gossip.specs.Levels.{level_of}
 use Rattle.za_gossip.specs.Updates.{new_label, updated}
 use Rattle.za_gossip.specs.Sources.{IsSource, joined_entry}
-use Rattle.za_gossip.proofs.Updates.{label-after}
+use Rattle.za_gossip.proofs.Updates.{label-after, rows-after}
 use Rattle.za_gossip.proofs.RowsOf.{same-rows}
 use Rattle.za_gossip.proofs.LevelRows.{own_block}
 use Rattle.za_gossip.proofs.Sizes.{items_of, level-size}
 use Rattle.za_gossip.proofs.Inputs.{inputs-some}
-use Rattle.za_gossip.proofs.Advanced.{length-input, label-found, rows-next, row-written}
+use Rattle.za_gossip.proofs.Advanced.{length-input, label-found, row-written}
 use Rattle.za_gossip.proofs.updating.advance.Goals as goal
-use Rattle.za_gossip.proofs.updating.advance.Goals.{After-into-3-1}
+use Rattle.za_gossip.proofs.updating.advance.Goals.{After-write_row-3}
 
 pub bounds-inputs-0 : goal.bounds-inputs-0
 bounds-inputs-0 c = inputs-some c.args.alphabet.now c.args.a.0 c.processes-n.ensures.whole c.requires.letter c.args.inputs.now c.requires.rows.0 c.requires.rows.1
@@ -33,7 +33,7 @@ pub least_free-label-requires-clause-few_numbers : goal.least_free-label-require
 least_free-label-requires-clause-few_numbers c =
     let n : ℕ = c.args.alphabet.now.processes in
     let few = inputs-some c.args.alphabet.now c.args.a.0 c.processes-n.ensures.whole c.requires.letter c.args.inputs.now c.requires.rows.0 c.requires.rows.1 in
-    let size = sym (length-map c.tertiary.result.now (λ (id : EventId). id.0)) ∙ ap length c.tertiary.ensures
+    let size = sym (length-map c.entries.result.now (λ (id : EventId). id.0)) ∙ ap length c.entries.ensures.value
     ∙ ap (λ (rows : Rows). length rows.tertiary) c.index-inputs-0.is
     ∙ length-input c.args.alphabet.now c.args.a.0 c.processes-n.ensures.whole c.requires.letter c.args.inputs.now c.requires.rows.0 c.requires.rows.1 Tertiary 0 c.index-inputs-0.result few
     ∙ sym (cube n) ∙ ap (λ m. m ^ 3) (sym c.processes-n.ensures.value) in
@@ -61,24 +61,24 @@ write_row-requires-3-clause-rows c = λ k d l.
     let size = ap length slice ∙ level-size c.args.alphabet.now.processes c.into.inside c.args.into.now c.into.view_is c.into.invariant c.requires.shape Tertiary in
     omega arith
 
-found : (c : After-into-3-1) (w : List ℕ) → AreRowsAfter c.args.alphabet.now w c.args.a.0 c.args.inputs.now →
+found : (c : After-write_row-3) (w : List ℕ) → AreRowsAfter c.args.alphabet.now w c.args.a.0 c.args.inputs.now →
     new_label c.args.alphabet.now.processes (loc_of c.args.alphabet.now c.args.a.0) c.args.a.0 (ids (loc_of c.args.alphabet.now) c.args.alphabet.now.processes w (length w)) ≡ c.least_free-label.result
 found c w given =
-    let row : (get_or c.args.inputs.now 0 c.index-inputs-0.result).tertiary ≡ event_numbers c.tertiary.result.now = sym (c.tertiary.ensures ∙ ap (λ (rows : Rows). rows.tertiary) c.index-inputs-0.is) in
+    let row : (get_or c.args.inputs.now 0 c.index-inputs-0.result).tertiary ≡ event_numbers c.entries.result.now = sym (c.entries.ensures.value ∙ ap (λ (rows : Rows). rows.tertiary) c.index-inputs-0.is) in
     let n = c.processes-n.ensures.value in
     let label : ℕ = c.least_free-label.result in
     let fits : label ≤ c.processes-n.result ^ 3 = c.least_free-label.ensures.bounded in
     label-found c.args.alphabet.now c.args.a.0 c.processes-n.ensures.whole c.requires.letter c.args.inputs.now w given label c.index-inputs-0.result
     (subst (λ m. label ≤ m ^ 3) n fits)
-    (ap (λ r. has r (number_of c.args.alphabet.now.processes c.args.a.0 label)) row ∙ ap (λ m. has (event_numbers c.tertiary.result.now) (number_of m c.args.a.0 label)) (sym n) ∙ c.least_free-label.ensures.free)
-    (λ j l. ap (λ r. has r (number_of c.args.alphabet.now.processes c.args.a.0 j)) row ∙ ap (λ m. has (event_numbers c.tertiary.result.now) (number_of m c.args.a.0 j)) (sym n) ∙ c.least_free-label.ensures.least j l)
+    (ap (λ r. has r (number_of c.args.alphabet.now.processes c.args.a.0 label)) row ∙ ap (λ m. has (event_numbers c.entries.result.now) (number_of m c.args.a.0 label)) (sym n) ∙ c.least_free-label.ensures.free)
+    (λ j l. ap (λ r. has r (number_of c.args.alphabet.now.processes c.args.a.0 j)) row ∙ ap (λ m. has (event_numbers c.entries.result.now) (number_of m c.args.a.0 j)) (sym n) ∙ c.least_free-label.ensures.least j l)
 
 pub returns-clause-label : goal.returns-clause-label
 returns-clause-label c = λ w given.
-    sym (found c w given) ∙ label-after (loc_of c.args.alphabet.now) (length c.args.alphabet.now.letters) c.args.alphabet.now.processes w c.args.a.0 c.processes-n.ensures.whole.located given.word c.requires.letter
+    sym (found (goal.at.returns-clause-label c).After-write_row-3 w given) ∙ label-after (loc_of c.args.alphabet.now) (length c.args.alphabet.now.letters) c.args.alphabet.now.processes w c.args.a.0 c.processes-n.ensures.whole.located given.word c.requires.letter
 
 -- the rows as they are written, after a word
-module _ (c : After-into-3-1) (w : List ℕ) (given : AreRowsAfter c.args.alphabet.now w c.args.a.0 c.args.inputs.now) where
+module _ (c : After-write_row-3) (w : List ℕ) (given : AreRowsAfter c.args.alphabet.now w c.args.a.0 c.args.inputs.now) where
   abbrev n : ℕ
   n = c.args.alphabet.now.processes
 
@@ -132,9 +132,10 @@ module _ (c : After-into-3-1) (w : List ℕ) (given : AreRowsAfter c.args.alphab
 
 pub returns-clause-rows : goal.returns-clause-rows
 returns-clause-rows c = λ w given x h.
+    let d = (goal.at.returns-clause-rows c).After-write_row-3 in
     let now : Inside = record { primary = with_items c.into.inside.primary c.write_row.new.into; secondary = with_items c.into.inside.secondary c.write_row-2.new.into; tertiary = with_items c.into.inside.tertiary c.write_row-3.new.into } in
-    same-rows (rows_in now) (rows_of (n c w given) (updated (n c w given) (xs c w given) c.args.a.0 (known c w given)))
-    (ap event_numbers (primary-held c w given) ∙ primary-row c w given)
-    (ap event_numbers (secondary-held c w given) ∙ secondary-row c w given)
-    (ap event_numbers (tertiary-held c w given) ∙ tertiary-row c w given)
-    ∙ rows-next c.args.alphabet.now c.args.a.0 c.processes-n.ensures.whole c.requires.letter c.args.inputs.now w given x h
+    same-rows (rows_in now) (rows_of (n d w given) (updated (n d w given) (xs d w given) c.args.a.0 (known d w given)))
+    (ap event_numbers (primary-held d w given) ∙ primary-row d w given)
+    (ap event_numbers (secondary-held d w given) ∙ secondary-row d w given)
+    (ap event_numbers (tertiary-held d w given) ∙ tertiary-row d w given)
+    ∙ rows-after (loc_of c.args.alphabet.now) (length c.args.alphabet.now.letters) (n d w given) w c.args.a.0 c.processes-n.ensures.whole.located given.word c.requires.letter x h
