@@ -10,12 +10,11 @@ use Rattle.za_order.specs.Views.{participants}
 use Rattle.za_order.specs.Labels.{number_of}
 use Rattle.za_order.specs.Locals.{Ids, ids, best}
 use Rattle.za_gossip.specs.declared.gossip.Level.{Level}
-use Rattle.za_gossip.specs.Rows.{Rows, rows_of, rows_after, AreRowsAfter}
+use Rattle.za_gossip.specs.Rows.{Rows, rows_of, AreRowsAfter}
 use Rattle.za_gossip.specs.Levels.{level_of}
 use Rattle.za_gossip.specs.Updates.{newest, new_label, updated}
 use Rattle.za_gossip.specs.Sources.{IsSource, joined_entry}
 use Rattle.za_gossip.proofs.Numbers.{newest-best, least-is}
-use Rattle.za_gossip.proofs.Updates.{ids-after}
 use Rattle.za_gossip.proofs.Rising.{rising-members, has-place}
 use Rattle.za_gossip.proofs.LevelRows.{width, own_block, IsRight, length-row, row-joined}
 use Rattle.za_gossip.proofs.Inputs.{inputs-length, inputs-some, input-at}

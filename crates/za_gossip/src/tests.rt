@@ -9,6 +9,7 @@ use std::alloc::{AllocError, Global};
 use std::test::Fail;
 use za_alpha::{Alphabet, Letter, LetterRow, OutOfMemory, Word};
 use za_ids::EventId;
+use za_views::Marks;
 
 /// Equal rows of their own.
 fn copied(alloc: Global, n: usize, from: &Gossip) -> Result<Gossip, OutOfMemory>
@@ -139,11 +140,7 @@ fn row(alloc: Global, name: &[u8], procs: &[u32]) -> Result<LetterRow, AllocErro
     })
 }
 
-fn alphabet_of(
-    alloc: Global,
-    n: usize,
-    letters: &[(&[u8], &[u32])],
-) -> Result<Alphabet, Fail> {
+fn alphabet_of(alloc: Global, n: usize, letters: &[(&[u8], &[u32])]) -> Result<Alphabet, Fail> {
     let mut rows = Vec::new(alloc);
     for (name, procs) in letters {
         rows.push(row(alloc, name, procs)?)?;
@@ -237,18 +234,51 @@ fn four(alloc: Global) -> Result<Alphabet, Fail> {
     )
 }
 
+/// Which participant of a letter has the latest news of `r` after the word.
+fn newest_after(
+    alloc: Global,
+    alphabet: &Alphabet,
+    a: Letter,
+    word: &Word,
+    states: &[Gossip],
+    r: usize,
+) -> Result<usize, OutOfMemory>
+    requires letter { a.0 < length alphabet.now.letters }
+    requires process { r < alphabet.now.processes }
+    requires word { IsWord (length alphabet.now.letters) word.now }
+    requires states { states.now ≡ all_rows_after alphabet.now word.now }
+{
+    let inputs = gathered(alloc, alphabet, a, word, states)?;
+    Ok(newest(alphabet, a, inputs.as_slice(), r))
+}
+
 #[test]
 fn latest_news_before_f(rt: HostRuntime) -> Result<(), Fail> {
     let alloc = rt.alloc();
     let alphabet = four(alloc)?;
     let f = Letter(3);
-    assert!(rt; alphabet.processes() == 4 && alphabet.letters() == 4);
+    assert!(rt; alphabet.processes() == 4);
+    assert!(rt; alphabet.letters() == 4);
     let mut word = Word::new(alloc);
-    let states = played(&rt, alloc, &alphabet, &mut word, &[(2, 0), (1, 0), (0, 0)])?;
-    let inputs = gathered(alloc, &alphabet, f, &word, states.as_slice())?;
-    for (r, index) in [(0, 0), (1, 1), (2, 1), (3, 1)] {
-        assert_eq!(rt; newest(&alphabet, f, inputs.as_slice(), r), index, "{r}");
-    }
+    let events = [(2, 0), (1, 0), (0, 0)];
+    let states = played(&rt, alloc, &alphabet, &mut word, &events)?;
+    // Of process 0 both participants know the latest event, and of each other only process 2.
+    assert_eq!(rt;
+        newest_after(alloc, &alphabet, f, &word, states.as_slice(), 0)?,
+        0
+    );
+    assert_eq!(rt;
+        newest_after(alloc, &alphabet, f, &word, states.as_slice(), 1)?,
+        1
+    );
+    assert_eq!(rt;
+        newest_after(alloc, &alphabet, f, &word, states.as_slice(), 2)?,
+        1
+    );
+    assert_eq!(rt;
+        newest_after(alloc, &alphabet, f, &word, states.as_slice(), 3)?,
+        1
+    );
     Ok(())
 }
 
@@ -261,11 +291,204 @@ fn entries_after_e_d_c_f(rt: HostRuntime) -> Result<(), Fail> {
     let states = played(&rt, alloc, &alphabet, &mut word, &events)?;
     for (state, numbers) in states.iter().zip([
         [196, 1, 196, 66],
-        [1, 66, 66, 66],
+        [131, 1, 1, 66],
         [196, 1, 196, 66],
-        [1, 66, 0, 66],
+        [131, 66, 0, 66],
     ]) {
         assert_ids(&rt, state.primary(), &numbers);
     }
     Ok(())
+}
+
+/// The marks of a word.
+fn marked(
+    rt: &impl std::process::Abort,
+    alloc: Global,
+    alphabet: &Alphabet,
+    events: &[(u8, u16)],
+) -> Result<Marks, OutOfMemory>
+    requires { length events.now ≤ 65536 }
+    ensures { IfOk result (λ m. m.alphabet ≡ alphabet.now) }
+{
+    let mut marks = Marks::new(alloc, alphabet, events.len())?;
+    for (letter, label) in events {
+        assert!(rt; marks.len() < marks.room());
+        assert!(rt; (*letter as usize) < alphabet.letters());
+        assert_eq!(rt; marks.push(Letter(*letter)), *label);
+    }
+    Ok(marks)
+}
+
+/// The number of an event by its position, and 0 for none, where letters have so many labels.
+fn number_at(
+    rt: &impl std::process::Abort,
+    labels: u64,
+    word: &Word,
+    marks: &Marks,
+    at: Option<usize>,
+) -> u64 {
+    match at {
+        None => 0,
+        Some(e) => {
+            assert!(rt; e < word.len());
+            assert!(rt; e < marks.len());
+            let first = u64::from(word.letters()[e].0)
+                .wrapping_mul(labels)
+                .wrapping_add(1);
+            first.wrapping_add(u64::from(marks.label(e)))
+        }
+    }
+}
+
+fn assert_primary_by_marks(
+    rt: &impl std::process::Abort,
+    labels: u64,
+    alphabet: &Alphabet,
+    word: &Word,
+    marks: &Marks,
+    p: usize,
+    state: &Gossip,
+)
+    requires process { p < alphabet.now.processes }
+    requires marks { marks.now.alphabet ≡ alphabet.now }
+{
+    let n = alphabet.processes();
+    assert_eq!(rt; state.primary().len(), n);
+    for (q, id) in state.primary().iter().enumerate() {
+        assert!(rt; q < n);
+        let at = marks.latest(p, q);
+        assert_eq!(rt; u64::from(id.0), number_at(rt, labels, word, marks, at));
+    }
+}
+
+fn assert_secondary_by_marks(
+    rt: &impl std::process::Abort,
+    labels: u64,
+    alphabet: &Alphabet,
+    word: &Word,
+    marks: &Marks,
+    p: usize,
+    q: usize,
+    block: &[EventId],
+)
+    requires first { p < alphabet.now.processes }
+    requires second { q < alphabet.now.processes }
+    requires marks { marks.now.alphabet ≡ alphabet.now }
+{
+    let n = alphabet.processes();
+    assert_eq!(rt; block.len(), n);
+    for (r, id) in block.iter().enumerate() {
+        assert!(rt; r < n);
+        let at = marks.second(p, q, r);
+        assert_eq!(rt; u64::from(id.0), number_at(rt, labels, word, marks, at));
+    }
+}
+
+fn assert_tertiary_by_marks(
+    rt: &impl std::process::Abort,
+    labels: u64,
+    alphabet: &Alphabet,
+    word: &Word,
+    marks: &Marks,
+    p: usize,
+    state: &Gossip,
+)
+    requires process { p < alphabet.now.processes }
+    requires marks { marks.now.alphabet ≡ alphabet.now }
+{
+    let n = alphabet.processes();
+    for (i, id) in state.tertiary().iter().enumerate() {
+        assert!(rt; n > 0);
+        let (q, r, s) = (i / n / n, i / n % n, i % n);
+        assert!(rt; q < n && r < n && s < n);
+        let at = marks.third(p, q, r, s);
+        assert_eq!(rt; u64::from(id.0), number_at(rt, labels, word, marks, at));
+    }
+}
+
+/// Compares all that a process keeps with its entries by positions.
+fn assert_by_marks(
+    rt: &impl std::process::Abort,
+    labels: u64,
+    alphabet: &Alphabet,
+    word: &Word,
+    marks: &Marks,
+    p: usize,
+    state: &Gossip,
+)
+    requires process { p < alphabet.now.processes }
+    requires marks { marks.now.alphabet ≡ alphabet.now }
+{
+    assert_primary_by_marks(rt, labels, alphabet, word, marks, p, state);
+    for q in 0..alphabet.processes() {
+        assert!(rt; q < state.primary().len());
+        let block = state.secondary(q);
+        assert_secondary_by_marks(rt, labels, alphabet, word, marks, p, q, block);
+    }
+    assert_tertiary_by_marks(rt, labels, alphabet, word, marks, p, state);
+}
+
+/// Plays a word both ways, and compares all labels and all that the processes keep.
+fn assert_same_both_ways(
+    rt: &impl std::process::Abort,
+    alloc: Global,
+    labels: u64,
+    alphabet: &Alphabet,
+    events: &[(u8, u16)],
+) -> Result<(), OutOfMemory>
+    requires { length events.now ≤ 65536 }
+{
+    let mut word = Word::new(alloc);
+    let states = played(rt, alloc, alphabet, &mut word, events)?;
+    let marks = marked(rt, alloc, alphabet, events)?;
+    let n = alphabet.processes();
+    assert_eq!(rt; states.len(), n);
+    for (p, state) in states.iter().enumerate() {
+        assert!(rt; p < n);
+        assert_by_marks(rt, labels, alphabet, &word, &marks, p, state);
+    }
+    Ok(())
+}
+
+#[test]
+fn numbers_and_positions_agree(rt: HostRuntime) -> Result<(), Fail> {
+    let alloc = rt.alloc();
+    let alphabet = two(alloc)?;
+    for events in [
+        [].as_slice(),
+        [(0, 0), (1, 0), (2, 0), (0, 0)].as_slice(),
+        [(2, 0), (2, 1), (2, 0), (0, 0), (0, 1), (1, 0), (2, 1)].as_slice(),
+    ] {
+        assert!(rt; events.len() <= 7);
+        assert_same_both_ways(&rt, alloc, 9, &alphabet, events)?;
+    }
+    let alphabet = four(alloc)?;
+    let events = [
+        (2, 0),
+        (1, 0),
+        (0, 0),
+        (3, 0),
+        (2, 1),
+        (0, 1),
+        (1, 1),
+        (3, 1),
+    ];
+    assert_same_both_ways(&rt, alloc, 65, &alphabet, &events)?;
+    let alphabet = ring(alloc)?;
+    let events = [(0, 0), (1, 0), (2, 0), (0, 1), (1, 1), (2, 1), (0, 0)];
+    assert_same_both_ways(&rt, alloc, 28, &alphabet, &events)?;
+    Ok(())
+}
+
+/// The letters `x` of processes 0 and 1, `y` of 1 and 2, and `z` of 0 and 2.
+fn ring(alloc: Global) -> Result<Alphabet, Fail> {
+    alphabet_of(
+        alloc,
+        3,
+        &[
+            (b"x".as_slice(), [0, 1].as_slice()),
+            (b"y".as_slice(), [1, 2].as_slice()),
+            (b"z".as_slice(), [0, 2].as_slice()),
+        ],
+    )
 }

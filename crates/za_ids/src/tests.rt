@@ -29,7 +29,13 @@ fn least_label_that_is_free(rt: HostRuntime) -> Result<(), Fail> {
     assert_eq!(rt; least_free(1, a, &[id_of(1, a, 1)]), 0);
     assert_eq!(rt; least_free(1, a, &[id_of(1, b, 0)]), 0);
     assert_eq!(rt; least_free(2, a, &[]), 0);
-    let ids = [EventId(0), id_of(2, b, 1), id_of(2, a, 0), id_of(2, b, 0), id_of(2, b, 3)];
+    let ids = [
+        EventId(0),
+        id_of(2, b, 1),
+        id_of(2, a, 0),
+        id_of(2, b, 0),
+        id_of(2, b, 3),
+    ];
     assert_eq!(rt; least_free(2, a, &ids), 1);
     assert_eq!(rt; least_free(2, b, &ids), 2);
     Ok(())

@@ -1,11 +1,7 @@
-use Rattle.std.proofs.Common.{◌≡◌, ℕ, ◌+◌, ◌++◌, ◌∷◌, [], List, Bool, true, false, map, length, get_or, Vec, Global, sym, ap, ◌∙◌, arith}
-use Rattle.std.proofs.lemmas.Bool.{cond-true, cond-false}
-use Rattle.std.proofs.lemmas.List.{map-append}
-use Rattle.za_alpha.specs.Words.{has}
+use Rattle.std.proofs.Common.{◌≡◌, ℕ, ◌++◌, ◌∷◌, [], map, length, get_or, Vec, Global, sym, ap, ◌∙◌, arith}
 use Rattle.za_alpha.specs.Alphabet.{loc_of, procs_at}
-use Rattle.za_alpha.specs.Procs.{members, members_below}
-use Rattle.za_alpha.specs.declared.procs.Procs.{Procs}
-use Rattle.za_alpha.proofs.Members.{members_below-zero, members_below-more}
+use Rattle.za_alpha.specs.Procs.{members_below}
+use Rattle.za_alpha.proofs.Members.{members_below-zero}
 use Rattle.za_gossip.specs.Rows.{Rows, rows_after}
 use Rattle.za_gossip.proofs.RowsOf.{row-of-all, length-all, length-primary}
 use Rattle.za_gossip.proofs.Rising.{map-members-in, map-members-out, members-fit}
@@ -60,6 +56,6 @@ returns c =
     record {
       word = c.requires.word;
       rows = c.loop-x.invariant ∙ ap (λ s. map f (members_below s c.loop-x.x)) c.loc-participants.ensures
-      ∙ ap (λ x. map f (members_below set x)) end
-      ∙ ap (map f) (members-fit set c.args.alphabet.now.processes (omega arith) (λ p h. whole.located.below c.args.a.0 p c.requires.letter h));
+          ∙ ap (λ x. map f (members_below set x)) end
+          ∙ ap (map f) (members-fit set c.args.alphabet.now.processes (omega arith) (λ p h. whole.located.below c.args.a.0 p c.requires.letter h));
     }
