@@ -12,7 +12,7 @@ use Rattle.za_alpha.specs.Procs.{members}
 use Rattle.za_alpha.specs.Alphabet.{NamedLetter, name_at}
 use Rattle.za_alpha.proofs.Members.{has-members, has-filter, has-range-below}
 use Rattle.zielonka.specs.Printed.{letter_line}
-use Rattle.zielonka.specs.Reading.{is_printable, are_printable, have_names}
+use Rattle.zielonka.specs.Reading.{is_printable, are_printable, have_printable_names}
 use Rattle.zielonka.proofs.WordLemmas.{both, printable-decimal}
 
 -- numbers that are all below n, by what is among them
@@ -73,10 +73,10 @@ printable-name name h =
     printable-bytes name (and_parts (short && not (begins_with_digit name)) (list_all is_name_byte name) h).1
 
 -- where names are names, they can be printed
-pub names-printable : (ls : List NamedLetter) → ((a : ℕ) → a < length ls → is_name (name_at ls a) ≡ true) → have_names ls ≡ true
+pub names-printable : (ls : List NamedLetter) → ((a : ℕ) → a < length ls → is_name (name_at ls a) ≡ true) → have_printable_names ls ≡ true
 names-printable [] h = refl
 names-printable (l ∷ ls) h =
-    both (is_printable l.name) (have_names ls) (printable-name l.name (h 0 (omega arith))) (names-printable ls (λ a k. h (suc a) (omega arith)))
+    both (is_printable l.name) (have_printable_names ls) (printable-name l.name (h 0 (omega arith))) (names-printable ls (λ a k. h (suc a) (omega arith)))
 
 -- so can those of a word's letters
 pub printable-letters : (ls : List NamedLetter) (ws : List ℕ) → ((a : ℕ) → a < length ls → is_name (name_at ls a) ≡ true) → All (λ a. a < length ls) ws → are_printable (map (name_at ls) ws) ≡ true

@@ -27,8 +27,8 @@ abbrev pub shown : List (Bor (List ℕ)) → List (List ℕ)
 shown words = map (λ (word : Bor (List ℕ)). word.now) words
 
 -- whether the name of each letter can be printed
-abbrev pub have_names : List NamedLetter → Bool
-have_names letters = list_all (λ (l : NamedLetter). is_printable l.name) letters
+abbrev pub have_printable_names : List NamedLetter → Bool
+have_printable_names letters = list_all (λ (l : NamedLetter). is_printable l.name) letters
 
 -- whether the text begins as a letter's line does
 abbrev pub begins_letter : List ℕ → Bool

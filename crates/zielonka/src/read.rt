@@ -13,7 +13,7 @@ ghost use Rattle.za_script.specs.ScriptLists.{AreScripts, FitAlphabet, IsLetterO
 ghost use Rattle.zielonka.specs.Printed;
 ghost use Rattle.zielonka.specs.Lines.{line, text_of};
 ghost use Rattle.zielonka.specs.Printed.{IsJob, printed, accept_line, letter_line, number_line, row_line, row_lines, script_line, script_lines};
-ghost use Rattle.zielonka.specs.Reading.{AreAppended, SaysTable, begins_letter, cell_rows, have_names, said_letter, said_row, shown};
+ghost use Rattle.zielonka.specs.Reading.{AreAppended, SaysTable, begins_letter, cell_rows, have_printable_names, said_letter, said_row, shown};
 
 use crate::print::print_job;
 use crate::words::{number_of, numbers_of, take_line, take_number_line, word_at, words_from};
@@ -50,7 +50,7 @@ fn letter_of(alloc: Global, words: &[&[u8]]) -> Result<LetterRow, OutOfMemory>
 
 /// The letters that the first lines say, as long as they are letter lines, and the text after them.
 fn take_letters(alloc: Global, text: &[u8]) -> Result<(Vec<LetterRow>, &[u8]), OutOfMemory>
-    ensures { IfOk result (λ parts. (letters : List NamedLetter) (rest : List ℕ) → have_names letters ≡ true → begins_letter rest ≡ false
+    ensures { IfOk result (λ parts. (letters : List NamedLetter) (rest : List ℕ) → have_printable_names letters ≡ true → begins_letter rest ≡ false
         → text.now ≡ text_of (map letter_line letters) ++ rest
         → (map said_row parts.0.items ≡ map said_letter letters) × (parts.1.now ≡ rest)) }
 {

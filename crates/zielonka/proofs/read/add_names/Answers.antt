@@ -24,10 +24,10 @@ loop-name-preserved c =
           let size : length c.args.names.now ≡ length letters = sym (length-map c.args.names.now (λ (w : Bor (List ℕ)). w.now)) ∙ ap length e ∙ length-map letters names in
           let there : i < length letters = omega arith in
           let a = get_or letters i 0 in
-          let name = sym (get_or-map (λ (w : Bor (List ℕ)). w.now) c.args.names.now i _ [] inside) ∙ ap (λ ws. get_or ws i []) e ∙ get_or-map names letters i 0 [] there in
           let before = c.loop-name.invariant.read letters whole all e room in
           let count : length (take i letters) ≡ i = length-take-le i letters (omega arith) in
           let left : total_of c.loop-name.scripts < MOST_SCRIPT_LETTERS = let t = before.total in omega arith in
+          let name = sym (get_or-map (λ (w : Bor (List ℕ)). w.now) c.args.names.now i _ [] inside) ∙ ap (λ ws. get_or ws i []) e ∙ get_or-map names letters i 0 [] there in
           let one = c.in_ok-add_name.ensures.read a whole (all i 0 there) name left in
           subst (λ (ws : List ℕ). AreAppended old c.add_name.new.scripts c.args.p ws) (sym (take_more letters i 0 there))
           (appended-more old c.loop-name.scripts c.add_name.new.scripts c.args.p (take i letters) (a ∷ []) c.requires.process before one);
