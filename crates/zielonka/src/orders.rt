@@ -1,11 +1,11 @@
 //! Every order of firing of small jobs, found by trying each enabled letter, against the weave.
 
-use crate::read::read_plain;
+use crate::read::{Job, read_plain};
 use std::alloc::Global;
 use std::process::Abort;
 use std::test::Fail;
 use za_alpha::{Alphabet, Letter, OutOfMemory, Word};
-use za_dfa::Closed;
+use za_dfa::{Closed, Dfa};
 use za_script::{Scripts, weave};
 
 const TWO: &str =
@@ -73,38 +73,54 @@ fn fire_each(
     Ok(longer)
 }
 
+/// The words that fit the scripts maximally, by firing each enabled letter in turn.
+fn maximal_words(
+    rt: &impl Abort,
+    alloc: Global,
+    alphabet: &Alphabet,
+    scripts: &Scripts,
+) -> Result<Vec<Word>, OutOfMemory> {
+    let mut maximal = Vec::new(alloc);
+    let mut words = Vec::new(alloc);
+    words.push(Word::new(alloc))?;
+    for _ in 0..scripts.total() {
+        words = fire_each(rt, alphabet, scripts, words, &mut maximal, alloc)?;
+    }
+    fire_each(rt, alphabet, scripts, words, &mut maximal, alloc)?;
+    Ok(maximal)
+}
+
+/// The word is one trace with the woven word, and has its answer.
+fn assert_same_answer(rt: &impl Abort, dfa: &Dfa, word: &Word, woven: &Word) {
+    let alphabet = dfa.alphabet();
+    assert!(rt; alphabet.has_word(word));
+    assert!(rt; alphabet.has_word(woven));
+    assert!(rt; alphabet.same_trace(word, woven));
+    assert_eq!(rt; dfa.accepts(word), dfa.accepts(woven));
+}
+
+/// How many words fit the scripts maximally; each has the answer of the weave.
+fn orders_of(rt: &impl Abort, alloc: Global, job: Job) -> Result<usize, OutOfMemory> {
+    let closed = match Closed::new(job.dfa) {
+        Ok(closed) => closed,
+        Err(_) => panic!(rt; "a broken diamond"),
+    };
+    let dfa = closed.dfa();
+    assert!(rt; job.scripts.fits(dfa.alphabet()));
+    let woven = weave(alloc, dfa.alphabet(), &job.scripts)?;
+    let maximal = maximal_words(rt, alloc, dfa.alphabet(), &job.scripts)?;
+    for word in &maximal {
+        assert_same_answer(rt, dfa, word, woven.word());
+    }
+    Ok(maximal.len())
+}
+
 #[test]
 fn every_order_of_firing_has_the_answer_of_the_weave(rt: HostRuntime) -> Result<(), Fail> {
     let alloc = rt.alloc();
     for (text, orders) in [(TWO, 2usize), (MANY, 6), (STUCK, 1), (LOCK, 1)] {
         let job = read_plain(alloc, text.as_bytes())?.ok_or("not plain")?;
-        let alphabet = job.dfa.alphabet().copy()?;
-        let closed = match Closed::new(job.dfa) {
-            Ok(closed) => closed,
-            Err(_) => panic!(&rt; "a broken diamond"),
-        };
-        assert!(rt; job.scripts.fits(&alphabet));
-        let woven = weave(alloc, &alphabet, &job.scripts)?;
-        let mut maximal = Vec::new(alloc);
-        let mut words = Vec::new(alloc);
-        words.push(Word::new(alloc))?;
-        for _ in 0..job.scripts.total() {
-            words = fire_each(&rt, &alphabet, &job.scripts, words, &mut maximal, alloc)?;
-        }
-        fire_each(&rt, &alphabet, &job.scripts, words, &mut maximal, alloc)?;
-        assert_eq!(rt; maximal.len(), orders);
-        for word in &maximal {
-            assert!(rt; alphabet.has_word(word) && alphabet.has_word(woven.word()));
-            assert!(rt; alphabet.same_trace(word, woven.word()));
-            assert!(rt;
-                closed.dfa().alphabet().has_word(word)
-                    && closed.dfa().alphabet().has_word(woven.word())
-            );
-            assert_eq!(rt;
-                closed.dfa().accepts(word),
-                closed.dfa().accepts(woven.word())
-            );
-        }
+        assert_eq!(rt; orders_of(&rt, alloc, job)?, orders);
     }
     Ok(())
 }
