@@ -1,5 +1,4 @@
 pub mod Lists
-pub mod Prefixes
 pub mod LatestNews
 pub mod Steps
 pub mod Numbers

@@ -8,7 +8,7 @@ use Rattle.za_order.proofs.Sets.{same-test, single-has, has-own}
 use Rattle.za_order.proofs.Views.{view-sound, view-complete, past-sound, past-complete}
 use Rattle.za_order.proofs.Entries.{primary-sound, primary-some}
 use Rattle.za_order.proofs.Steps.{view-came, primary_of_participant, primary_joined, primary_kept}
-use Rattle.za_gossip.proofs.Prefixes.{greatest-same}
+use Rattle.za_order.proofs.Prefixes.{greatest-same}
 use Rattle.za_gossip.proofs.LatestNews.{IsNewest}
 
 module _ (who : ℕ → List ℕ) (n p : ℕ) where

@@ -14,10 +14,10 @@ use Rattle.za_order.proofs.Participants.{IsOver, word-over}
 use Rattle.za_order.proofs.Entries.{primary-sound, primary-below, secondary-sound, secondary-below, tertiary-sound, tertiary-below}
 use Rattle.za_order.proofs.Equivalent.{same-ids}
 use Rattle.za_order.proofs.Steps.{primary_of_participant, primary_kept}
+use Rattle.za_order.proofs.Prefixes.{Agree, primary-same, secondary-same, tertiary-same, label-same}
 use Rattle.za_gossip.specs.Rows.{rows_of, rows_after}
 use Rattle.za_gossip.specs.Updates.{newest, new_label, new_primary, new_secondary, new_tertiary, updated}
 use Rattle.za_gossip.specs.Laws.{ParticipantsUpdate, OthersKeep, NewLabelIsLabel}
-use Rattle.za_gossip.proofs.Prefixes.{primary-same, secondary-same, tertiary-same, label-same}
 use Rattle.za_gossip.proofs.LatestNews.{IsNewest, newest-some, best-newest}
 use Rattle.za_gossip.proofs.Steps.{primary-newest, secondary-newest, tertiary-newest, secondary-own, tertiary-own, secondary-kept, tertiary-kept}
 use Rattle.za_gossip.proofs.Numbers.{newest-best, label-new}
@@ -107,8 +107,14 @@ module _ (loc : ℕ → List ℕ) (letters processes : ℕ) (w : List ℕ) (a : 
   number-before (Some e) h =
       let l = h e refl in
       let x = agrees e l in
-      let y = label-same loc letters processes (length w) wa w (omega (arith, length-next)) (omega arith)
-      (word-over loc letters processes wa alphabet word-next) (word-over loc letters processes w alphabet word) agrees (length w) e l (omega arith) in
+      let same : Agree loc letters processes (length w) wa w = record {
+        first = word-over loc letters processes wa alphabet word-next;
+        second = word-over loc letters processes w alphabet word;
+        in_first = omega (arith, length-next);
+        in_second = omega arith;
+        same = agrees;
+      } in
+      let y = label-same loc letters processes (length w) wa w e same l in
       cc
 
   -- so the numbers after its positions are the same

@@ -17,3 +17,4 @@ pub mod Matches
 pub mod Equivalent
 mod Examples
 pub mod Marking
+pub mod Prefixes

@@ -2,7 +2,6 @@ mod Examples
 pub mod NewestSteps
 pub mod LeastPlaces
 pub mod Ranges
-pub mod Prefixes
 pub mod Knowledge
 pub mod MarkedEntries
 pub mod MarkedLabels

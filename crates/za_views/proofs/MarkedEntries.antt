@@ -7,7 +7,7 @@ use Rattle.za_order.proofs.Entries.{primary-sound, primary-below, secondary-soun
 use Rattle.za_views.specs.declared.events.Event.{Event}
 use Rattle.za_views.specs.Events.{entry, known, known_by, event_at, AreEvents}
 use Rattle.za_views.specs.Kept.{AreMarked}
-use Rattle.za_views.proofs.Prefixes.{then-same}
+use Rattle.za_order.proofs.Prefixes.{then-same}
 use Rattle.za_views.proofs.Knowledge.{primary-through_own}
 
 -- a fact for one variant

@@ -12,7 +12,7 @@ use Rattle.za_views.specs.declared.events.Event.{Event}
 use Rattle.za_views.specs.Events.{no_event, event_at, entry, known_by}
 use Rattle.za_views.specs.Newest.{IsJoined}
 use Rattle.za_views.specs.Kept.{AreMarked}
-use Rattle.za_views.proofs.Prefixes.{Agree, primary-same, last-same, label-same}
+use Rattle.za_order.proofs.Prefixes.{Agree, primary-same, last-same, label-same}
 use Rattle.za_views.proofs.Knowledge.{joined-is}
 use Rattle.za_views.proofs.MarkedEntries.{first-is}
 

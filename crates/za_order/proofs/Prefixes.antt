@@ -10,7 +10,7 @@ use Rattle.za_order.proofs.Entries.{primary-sound, primary-below, secondary-soun
 use Rattle.za_order.proofs.Labels.{label-free, label-least}
 
 -- tests that agree below n have one greatest number there
-greatest-same : (s t : ℕ → Bool) (n : ℕ) → ((i : ℕ) → i < n → s i ≡ t i) → greatest s n ≡ greatest t n
+pub greatest-same : (s t : ℕ → Bool) (n : ℕ) → ((i : ℕ) → i < n → s i ≡ t i) → greatest s n ≡ greatest t n
 greatest-same s t zero h = refl
 greatest-same s t (suc n) h = let e = h n (omega arith) in let r = greatest-same s t n (λ i l. h i (omega arith)) in cc
 
@@ -44,14 +44,14 @@ module _ (who who' : ℕ → List ℕ) where
       let t = h i (omega arith) in cc)
 
   -- secondary entries
-  secondary-same : (n p q r : ℕ) → ((j : ℕ) → j < n → who j ≡ who' j) → secondary who n p q r ≡ secondary who' n p q r
+  pub secondary-same : (n p q r : ℕ) → ((j : ℕ) → j < n → who j ≡ who' j) → secondary who n p q r ≡ secondary who' n p q r
   secondary-same n p q r h =
       then-same (λ e. last_in_past who e r) (λ e. last_in_past who' e r) (primary who n p q)
       (λ e k. last-same n e r (primary-below who n p q e (primary-sound who n p q e k)) h)
       ∙ ap (option_and_then (λ e. last_in_past who' e r)) (primary-same n p q h)
 
   -- tertiary entries
-  tertiary-same : (n p q r s : ℕ) → ((j : ℕ) → j < n → who j ≡ who' j) → tertiary who n p q r s ≡ tertiary who' n p q r s
+  pub tertiary-same : (n p q r s : ℕ) → ((j : ℕ) → j < n → who j ≡ who' j) → tertiary who n p q r s ≡ tertiary who' n p q r s
   tertiary-same n p q r s h =
       then-same (λ e. last_in_past who e s) (λ e. last_in_past who' e s) (secondary who n p q r)
       (λ e k. last-same n e s (secondary-below who n p q r e (secondary-sound who n p q r e k)) h)
