@@ -1,6 +1,8 @@
 //! The program `zla`: the top call of zielonka over standard input and standard output.
 #![tactic(auto)]
 
+ghost use Rattle.std.specs.Prelude.{◌≡◌, ◌⊎◌, IfErr};
+
 use std::process::ExitCode;
 use std::rt::Env;
 use std::{env, io};
@@ -9,7 +11,9 @@ use zielonka::{Status, plain};
 
 /// The words after the program's name. Memory for them was refused is status 8, and any other
 /// refusal of the system, as of a word that is no text, is status 11.
-fn words(rt: &(impl Env + AllocGlobal)) -> Result<Vec<String>, Status> {
+fn words(rt: &(impl Env + AllocGlobal)) -> Result<Vec<String>, Status>
+    ensures status { IfErr result (λ s. (s.0 ≡ 8) ⊎ (s.0 ≡ 11)) }
+{
     let args = match env::args(rt) {
         Ok(args) => args,
         Err(error) => {
