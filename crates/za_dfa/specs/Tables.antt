@@ -41,6 +41,11 @@ pub record IsComplete (d : CompleteDfa) : Type 0 where
   pub targets_length : length d.targets ≡ d.states * length d.alphabet.letters
   pub targets_below : All (λ target. target < d.states) d.targets
 
+-- the table with these entries: a state for each entry of `accepting`
+abbrev pub table_with : DistributedAlphabet → ℕ → List Bool → List ℕ → CompleteDfa
+table_with alphabet start accepting targets =
+    record { alphabet = alphabet; states = length accepting; start = start; accepting = accepting; targets = targets }
+
 abbrev pub table_of : Inside → CompleteDfa
 table_of inside =
     record { alphabet = inside.alphabet; states = inside.states; start = inside.start; accepting = inside.accepting.items; targets = inside.targets.items }

@@ -2,7 +2,7 @@ ghost use Rattle.std.specs.Prelude.{◌≡◌, ◌<◌, ◌∷◌, ◌++◌, [],
 ghost use Rattle.za_alpha.specs.Words.{IsWord};
 ghost use Rattle.za_dfa.specs.Automata.{walk, is_accepted};
 ghost use Rattle.za_dfa.specs.Rows.{dfa_fault, completed};
-ghost use Rattle.za_dfa.specs.Tables.{step_of, accepts_at, automaton_of, IsComplete};
+ghost use Rattle.za_dfa.specs.Tables.{step_of, accepts_at, automaton_of, table_with, IsComplete};
 
 use crate::fault::DfaFault;
 use crate::rows::{Row, table_of};
@@ -74,6 +74,22 @@ impl Dfa {
         })
     }
 
+    /// The table with these entries: entry `q` of `accepting` says whether state `q` accepts, and
+    /// entry `q * m + a` of `targets` is where letter `a` of `m` letters leads from state `q`. There is
+    /// a state for each entry of `accepting`, 1 to 33, and each target is one. It takes no memory.
+    pub fn of_table(alphabet: Alphabet, start: u8, accepting: Vec<bool>, targets: Vec<u8>) -> Dfa
+        requires { IsComplete (table_with alphabet start accepting.items targets.items) }
+        ensures { result ≡ table_with alphabet start accepting.items targets.items }
+    {
+        Dfa {
+            alphabet,
+            states: accepting.len(),
+            start,
+            accepting,
+            targets,
+        }
+    }
+
     /// The alphabet.
     pub fn alphabet(&self) -> &Alphabet
         ensures { result.now ≡ self.now.alphabet }
@@ -93,6 +109,7 @@ impl Dfa {
     pub fn start(&self) -> u8
         ensures value { result ≡ self.now.start }
         ensures within { result < self.now.states }
+        ensures whole { IsComplete self.now }
     {
         self.start
     }

@@ -156,6 +156,19 @@ fn missing_rows_lead_to_an_added_state(rt: HostRuntime) -> Result<(), Fail> {
 }
 
 #[test]
+fn a_whole_table(rt: HostRuntime) -> Result<(), Fail> {
+    let alphabet = alphabet_of(rt.alloc(), false)?;
+    assert_eq!(rt; alphabet.letters(), 2);
+    let accepting = Vec::from_slice(rt.alloc(), &[true, false])?;
+    let targets = Vec::from_slice(rt.alloc(), &[1, 0, 0, 1])?;
+    let dfa = Dfa::of_table(alphabet, 1, accepting, targets);
+    assert_eq!(rt; dfa.states(), 2);
+    assert!(rt; accepts(&rt, &dfa, &[1, 0])?);
+    assert!(rt; !accepts(&rt, &dfa, &[0, 0])?);
+    Ok(())
+}
+
+#[test]
 fn a_broken_diamond_hands_the_dfa_back(rt: HostRuntime) -> Result<(), Fail> {
     let rows = [row(0, 0, 1), row(1, 1, 0), row(0, 1, 0), row(1, 0, 1)];
     let dfa = completed(&rt, false, 2, 0, &rows)??;
