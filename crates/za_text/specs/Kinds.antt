@@ -1,0 +1,31 @@
+-- The texts that name the kinds of refusal.
+use Rattle.std.specs.Prelude.{ℕ, List, codes}
+use Rattle.za_text.specs.declared.kind.Kind.{Kind}
+use Rattle.za_text.specs.declared.kind.Kind.TheVariants.{Cut, BadByte, Header, OutOfOrder, WordCount, NoEnd, Trailing, BadNumber, BadName, ProcessCount, LetterCount, RepeatedName, EmptyLoc, NoSuchProcess, StateCount, NoSuchState, NoSuchLetter, TwoTargets, NotOfProcess, ScriptsFull, NoSuchAnswer, ClaimFull, BadEvent, NoSuchLabel}
+
+-- the text of a kind
+abbrev pub kind_text : Kind → List ℕ
+kind_text Cut = codes "line is cut"
+kind_text BadByte = codes "bad byte"
+kind_text Header = codes "header is not zla 1"
+kind_text OutOfOrder = codes "line is out of order"
+kind_text WordCount = codes "wrong number of words"
+kind_text NoEnd = codes "end is missing"
+kind_text Trailing = codes "text after end"
+kind_text BadNumber = codes "bad number"
+kind_text BadName = codes "bad name"
+kind_text ProcessCount = codes "processes not in 1 to 6"
+kind_text LetterCount = codes "more than 32 letters"
+kind_text RepeatedName = codes "name is repeated"
+kind_text EmptyLoc = codes "letter without process"
+kind_text NoSuchProcess = codes "no such process"
+kind_text StateCount = codes "states not in 1 to 32"
+kind_text NoSuchState = codes "no such state"
+kind_text NoSuchLetter = codes "no such letter"
+kind_text TwoTargets = codes "two targets"
+kind_text NotOfProcess = codes "letter not of this process"
+kind_text ScriptsFull = codes "more than 65536 script letters"
+kind_text NoSuchAnswer = codes "no such answer"
+kind_text ClaimFull = codes "more than 65536 events"
+kind_text BadEvent = codes "bad event"
+kind_text NoSuchLabel = codes "no such label"

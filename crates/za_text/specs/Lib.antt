@@ -1,0 +1,6 @@
+pub mod Lines
+pub mod Words
+pub mod Names
+pub mod Numbers
+pub mod Kinds
+pub mod Printed

@@ -1,0 +1,15 @@
+-- Names.
+use Rattle.std.specs.Prelude.{ℕ, ◌==◌, ◌&&◌, ◌||◌, Bool, false, not, nat_le, List, [], ◌∷◌, length}
+use Rattle.std.specs.List.{list_all}
+
+-- a letter A to Z or a to z, a digit or an underscore
+abbrev pub is_name_byte : ℕ → Bool
+is_name_byte b = (nat_le 65 b && nat_le b 90) || (nat_le 97 b && nat_le b 122) || (nat_le 48 b && nat_le b 57) || b == 95
+
+abbrev pub begins_with_digit : List ℕ → Bool
+begins_with_digit [] = false
+begins_with_digit (b ∷ bs) = nat_le 48 b && nat_le b 57
+
+-- 1 to 32 such bytes, of which the first is no digit
+abbrev pub is_name : List ℕ → Bool
+is_name word = nat_le 1 (length word) && nat_le (length word) 32 && not (begins_with_digit word) && list_all is_name_byte word

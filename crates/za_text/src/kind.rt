@@ -1,0 +1,96 @@
+ghost use Rattle.std.specs.Prelude.{◌≡◌};
+ghost use Rattle.za_text.specs.Kinds.{kind_text};
+
+/// What is wrong with a line of a document.
+#[derive(Clone, Copy, Debug, PartialEq, Eq)]
+pub enum Kind {
+    /// The line isn't whole: no line feed ends it.
+    Cut,
+    /// The line has a byte other than tab and 32 to 126.
+    BadByte,
+    /// The first line with words isn't `zla 1`.
+    Header,
+    /// The first word doesn't stand at this place.
+    OutOfOrder,
+    /// A line that begins so has another number of words.
+    WordCount,
+    /// The text ends before its last `end`.
+    NoEnd,
+    /// A word follows the last `end`.
+    Trailing,
+    /// A word that must be a number isn't one.
+    BadNumber,
+    /// The letter's name isn't a name.
+    BadName,
+    /// The number of processes isn't in 1 to 6.
+    ProcessCount,
+    /// The line is the 33rd letter line.
+    LetterCount,
+    /// An earlier letter has the name.
+    RepeatedName,
+    /// No process follows the letter's name.
+    EmptyLoc,
+    /// The number isn't below the number of processes.
+    NoSuchProcess,
+    /// The number of states isn't in 1 to 32.
+    StateCount,
+    /// The number isn't below the number of states.
+    NoSuchState,
+    /// No letter has the name.
+    NoSuchLetter,
+    /// An earlier row has the state and letter and another target.
+    TwoTargets,
+    /// The script's process is no process of the letter.
+    NotOfProcess,
+    /// 65,536 script letters were read before this one.
+    ScriptsFull,
+    /// The claim's word is none of `accept`, `reject` and `stuck`.
+    NoSuchAnswer,
+    /// The line is the 65,537th fire line.
+    ClaimFull,
+    /// The fire line's word has no point.
+    BadEvent,
+    /// The label is above the cube of the number of processes.
+    NoSuchLabel,
+}
+
+/// The first wrong line of a text, by its number from 1 on, and what is wrong with it.
+#[derive(Clone, Copy, Debug, PartialEq, Eq)]
+pub struct TextFault {
+    pub line: u32,
+    pub kind: Kind,
+}
+
+impl Kind {
+    /// The text that names the kind, in ASCII and without a line feed.
+    pub fn text(self) -> &'static [u8]
+        ensures { result.now ≡ kind_text self }
+    {
+        match self {
+            Kind::Cut => b"line is cut",
+            Kind::BadByte => b"bad byte",
+            Kind::Header => b"header is not zla 1",
+            Kind::OutOfOrder => b"line is out of order",
+            Kind::WordCount => b"wrong number of words",
+            Kind::NoEnd => b"end is missing",
+            Kind::Trailing => b"text after end",
+            Kind::BadNumber => b"bad number",
+            Kind::BadName => b"bad name",
+            Kind::ProcessCount => b"processes not in 1 to 6",
+            Kind::LetterCount => b"more than 32 letters",
+            Kind::RepeatedName => b"name is repeated",
+            Kind::EmptyLoc => b"letter without process",
+            Kind::NoSuchProcess => b"no such process",
+            Kind::StateCount => b"states not in 1 to 32",
+            Kind::NoSuchState => b"no such state",
+            Kind::NoSuchLetter => b"no such letter",
+            Kind::TwoTargets => b"two targets",
+            Kind::NotOfProcess => b"letter not of this process",
+            Kind::ScriptsFull => b"more than 65536 script letters",
+            Kind::NoSuchAnswer => b"no such answer",
+            Kind::ClaimFull => b"more than 65536 events",
+            Kind::BadEvent => b"bad event",
+            Kind::NoSuchLabel => b"no such label",
+        }
+    }
+}

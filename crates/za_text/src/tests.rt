@@ -1,0 +1,176 @@
+use super::*;
+
+const MOST_BYTES: usize = 4294967294;
+
+/// The line at a place, counted from 0, if its number is how many lines have come.
+fn line_at(text: &[u8], place: usize) -> Option<(u32, &[u8], bool)> {
+    if MOST_BYTES < text.len() {
+        return None;
+    }
+    let mut lines = Lines::new(text);
+    for _ in 0..place {
+        lines.next()?;
+    }
+    let line = lines.next()?;
+    if lines.passed() != line.number {
+        return None;
+    }
+    Some((line.number, line.text, line.whole))
+}
+
+/// Where the word at a place of a line begins and ends, counted from 0.
+fn word_at(text: &[u8], place: usize) -> Option<(u32, usize, usize)> {
+    let line = Line {
+        number: 7,
+        text,
+        whole: true,
+    };
+    let mut words = line.words();
+    for _ in 0..place {
+        words.next()?;
+    }
+    let word = words.next()?;
+    Some((word.line, word.from, word.to))
+}
+
+#[test]
+fn lines_end_at_line_feeds(rt: HostRuntime) {
+    for (text, place, line) in [
+        (b"".as_slice(), 0, None),
+        (b"\n".as_slice(), 0, Some((1, b"".as_slice(), true))),
+        (b"\n".as_slice(), 1, None),
+        (b"a\n\nb c".as_slice(), 0, Some((1, b"a".as_slice(), true))),
+        (b"a\n\nb c".as_slice(), 1, Some((2, b"".as_slice(), true))),
+        (
+            b"a\n\nb c".as_slice(),
+            2,
+            Some((3, b"b c".as_slice(), false)),
+        ),
+        (b"a\n\nb c".as_slice(), 3, None),
+        (b"a\r\n".as_slice(), 0, Some((1, b"a\r".as_slice(), true))),
+    ] {
+        assert_eq!(rt; line_at(text, place), line, "{text:?} {place}");
+    }
+}
+
+#[test]
+fn words_stand_between_spaces_and_tabs(rt: HostRuntime) {
+    for (text, place, word) in [
+        (b"".as_slice(), 0, None),
+        (b" \t ".as_slice(), 0, None),
+        (b"row".as_slice(), 0, Some((7, 0, 3))),
+        (b"row".as_slice(), 1, None),
+        (b"\t row\t0  a ".as_slice(), 0, Some((7, 2, 5))),
+        (b"\t row\t0  a ".as_slice(), 1, Some((7, 6, 7))),
+        (b"\t row\t0  a ".as_slice(), 2, Some((7, 9, 10))),
+        (b"\t row\t0  a ".as_slice(), 3, None),
+        (b"a\rb".as_slice(), 0, Some((7, 0, 3))),
+    ] {
+        assert_eq!(rt; word_at(text, place), word, "{text:?} {place}");
+    }
+}
+
+#[test]
+fn numbers_are_plain_decimals(rt: HostRuntime) {
+    for (word, value) in [
+        (b"0".as_slice(), Some(0)),
+        (b"7".as_slice(), Some(7)),
+        (b"65536".as_slice(), Some(65536)),
+        (b"4294967295".as_slice(), Some(4294967295)),
+        (b"4294967296".as_slice(), None),
+        (b"9999999999".as_slice(), None),
+        (b"10000000000".as_slice(), None),
+        (b"00".as_slice(), None),
+        (b"02".as_slice(), None),
+        (b"".as_slice(), None),
+        (b"a".as_slice(), None),
+        (b"1a".as_slice(), None),
+        (b"+1".as_slice(), None),
+        (b"-1".as_slice(), None),
+    ] {
+        assert_eq!(rt; number(word), value, "{word:?}");
+    }
+}
+
+#[test]
+fn names_begin_with_a_letter_or_an_underscore(rt: HostRuntime) {
+    for (word, named) in [
+        (b"a".as_slice(), true),
+        (b"Zz_09".as_slice(), true),
+        (b"_".as_slice(), true),
+        (b"a2345678901234567890123456789012".as_slice(), true),
+        (b"a23456789012345678901234567890123".as_slice(), false),
+        (b"".as_slice(), false),
+        (b"1a".as_slice(), false),
+        (b"a.0".as_slice(), false),
+        (b"a-b".as_slice(), false),
+    ] {
+        assert_eq!(rt; is_name(word), named, "{word:?}");
+    }
+}
+
+#[test]
+fn lines_hold_tabs_and_printed_bytes(rt: HostRuntime) {
+    for (bytes, allowed) in [
+        (b"".as_slice(), true),
+        (b" ~\t".as_slice(), true),
+        (b"a\r".as_slice(), false),
+        (b"\x00".as_slice(), false),
+        (b"\x1f".as_slice(), false),
+        (b"\x7f".as_slice(), false),
+        (b"\x80".as_slice(), false),
+    ] {
+        assert_eq!(rt; are_allowed(bytes), allowed, "{bytes:?}");
+    }
+}
+
+#[test]
+fn kinds_of_any_text(rt: HostRuntime) {
+    for (kind, text) in [
+        (Kind::Cut, b"line is cut".as_slice()),
+        (Kind::BadByte, b"bad byte".as_slice()),
+        (Kind::Header, b"header is not zla 1".as_slice()),
+        (Kind::OutOfOrder, b"line is out of order".as_slice()),
+        (Kind::WordCount, b"wrong number of words".as_slice()),
+        (Kind::NoEnd, b"end is missing".as_slice()),
+        (Kind::Trailing, b"text after end".as_slice()),
+        (Kind::BadNumber, b"bad number".as_slice()),
+        (Kind::BadName, b"bad name".as_slice()),
+    ] {
+        assert_eq!(rt; kind.text(), text);
+    }
+}
+
+#[test]
+fn kinds_of_jobs(rt: HostRuntime) {
+    for (kind, text) in [
+        (Kind::ProcessCount, b"processes not in 1 to 6".as_slice()),
+        (Kind::LetterCount, b"more than 32 letters".as_slice()),
+        (Kind::RepeatedName, b"name is repeated".as_slice()),
+        (Kind::EmptyLoc, b"letter without process".as_slice()),
+        (Kind::NoSuchProcess, b"no such process".as_slice()),
+        (Kind::StateCount, b"states not in 1 to 32".as_slice()),
+        (Kind::NoSuchState, b"no such state".as_slice()),
+        (Kind::NoSuchLetter, b"no such letter".as_slice()),
+        (Kind::TwoTargets, b"two targets".as_slice()),
+        (Kind::NotOfProcess, b"letter not of this process".as_slice()),
+        (
+            Kind::ScriptsFull,
+            b"more than 65536 script letters".as_slice(),
+        ),
+    ] {
+        assert_eq!(rt; kind.text(), text);
+    }
+}
+
+#[test]
+fn kinds_of_claims(rt: HostRuntime) {
+    for (kind, text) in [
+        (Kind::NoSuchAnswer, b"no such answer".as_slice()),
+        (Kind::ClaimFull, b"more than 65536 events".as_slice()),
+        (Kind::BadEvent, b"bad event".as_slice()),
+        (Kind::NoSuchLabel, b"no such label".as_slice()),
+    ] {
+        assert_eq!(rt; kind.text(), text);
+    }
+}
