@@ -1,0 +1,14 @@
+pub mod Options
+pub mod LetterRows
+pub mod Places
+pub mod Added
+pub mod Marks
+pub mod Telling
+pub mod StepFaults
+pub mod Opening
+pub mod Saying
+pub mod Faults
+pub mod Whole
+pub mod Showing
+pub mod Cells
+mod Examples

@@ -1,0 +1,16 @@
+use Rattle.std.proofs.Common.{refl, sym, subst}
+use Rattle.za_lang.specs.declared.order.Head.TheVariants as head
+use Rattle.za_lang.specs.Answers.{data_of}
+use Rattle.za_lang.specs.Reading.{more_said, Tells}
+use Rattle.za_lang.specs.Shown.{letters_told}
+use Rattle.za_lang.proofs.Opening.{blank_told}
+use Rattle.za_lang.proofs.letters.Letters.after.Goals as goal
+
+pub returns-in_ok-job-in-States-clause-taken : goal.returns-in_ok-job-in-States-clause-taken
+returns-in_ok-job-in-States-clause-taken c =
+    let processes = c.args.self.processes in
+    let rows = c.args.self.rows.items in
+    let said = c.in_ok-job-in-States.ensures.said in
+    let job = data_of c.in_ok-job-in-States.job in
+    let told = subst (λ j. Tells j (more_said (letters_told processes rows) head.States c.args.words)) (sym said.1.1.1) (blank_told processes rows c.args.words said.1.0 said.1.1.0) in
+    rw c.in-States.is (said.0, (refl, told))

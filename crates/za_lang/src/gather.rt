@@ -1,0 +1,231 @@
+//! What the lines from the start line on say is put into the job at once: its parts are the alphabet,
+//! the table and the scripts themselves.
+
+ghost use Rattle.std.specs.Prelude.{◌≡◌, ◌<◌, ◌≤◌, ◌∷◌, ◌++◌, [], List, None, Some, true, length, IfOk, MatchResult, OnOk, if◌then◌else◌};
+ghost use Rattle.std.specs.List.{filter_map};
+ghost use Rattle.std.specs.Option.{option_to_list};
+ghost use Rattle.za_text.specs.Numbers.{number_of};
+ghost use Rattle.za_text.specs.declared.kind.Kind.TheVariants.{TwoTargets};
+ghost use Rattle.za_alpha.specs.Alphabet.{place_of};
+ghost use Rattle.za_dfa.specs.declared.rows.Row as declared_row;
+ghost use Rattle.za_dfa.specs.Cells.{is_other, AreEntered};
+ghost use Rattle.za_dfa.specs.Rows.{has_other};
+ghost use Rattle.za_script.specs.ScriptLists.{total_of, AreScripts};
+ghost use Rattle.za_lang.specs.Answers.{data_of, IsWrong};
+ghost use Rattle.za_lang.specs.Documents.{rows_said};
+ghost use Rattle.za_lang.specs.Jobs.{IsJob};
+ghost use Rattle.za_lang.specs.Langs.{target_of, IsPartial};
+ghost use Rattle.za_lang.specs.Reading.{is_late_head, marked, AreAdded, IsTaken};
+ghost use Rattle.za_lang.specs.Tests.{accept_line_fault, row_line_fault, step_fault, steps_fault};
+
+use crate::fault::Refusal;
+use crate::job::Job;
+use crate::lang::Lang;
+use crate::line_tests::{end_line_fault, process_of, start_said, state_of};
+use crate::order::Head;
+use crate::words::Words;
+use za_alpha::{Alphabet, Letter};
+use za_dfa::Row;
+use za_script::{ScriptFault, Scripts};
+use za_text::Kind;
+
+/// Lets the states that the words name accept.
+fn accept_states(lang: &mut Lang, mut words: Words) -> Result<(), Kind>
+    ensures { MatchResult result
+        (λ _. (accept_line_fault lang.old.states words.entry ≡ None)
+        × (lang.new ≡ record lang.old { accepting = marked lang.old.accepting (filter_map number_of words.entry) })
+        × IsPartial lang.new)
+        (λ kind. accept_line_fault lang.old.states words.entry ≡ Some kind) }
+{
+    let states = lang.states();
+    while let Some(word) = words.next() {
+        let q = state_of(states, word)?;
+        lang.accept(q);
+    }
+    Ok(())
+}
+
+/// The row that the words say: a state, a letter and a state.
+#[tactic(auto, unfolding(crate::specs::Tests::new_row_fault))]
+fn row_said(lang: &Lang, mut words: Words) -> Result<Row, Kind>
+    ensures said { MatchResult result
+        (λ row. (rows : List declared_row.Row) → row_line_fault lang.now.states lang.now.alphabet.letters rows words.entry ≡ (if has_other rows row.from row.letter.0 row.to then Some TwoTargets else None))
+        (λ kind. (rows : List declared_row.Row) → row_line_fault lang.now.states lang.now.alphabet.letters rows words.entry ≡ Some kind) }
+    ensures row { IfOk result (λ row. (rows_said lang.now.alphabet.letters Head.Row words.entry ≡ row ∷ [])
+        × (row.from < lang.now.states) × (row.letter.0 < length lang.now.alphabet.letters) × (row.to < lang.now.states)) }
+{
+    let Some(from) = words.next() else {
+        return Err(Kind::WordCount);
+    };
+    let Some(name) = words.next() else {
+        return Err(Kind::WordCount);
+    };
+    let Some(to) = words.next() else {
+        return Err(Kind::WordCount);
+    };
+    if words.next().is_some() {
+        return Err(Kind::WordCount);
+    }
+    let from = state_of(lang.states(), from)?;
+    let Some(letter) = lang.alphabet().find(name) else {
+        return Err(Kind::NoSuchLetter);
+    };
+    let to = state_of(lang.states(), to)?;
+    Ok(Row {
+        from: u32::from(from),
+        letter,
+        to: u32::from(to),
+    })
+}
+
+/// Whether a row was entered with the row's state and letter and another target.
+fn is_contradicted(lang: &Lang, row: &Row) -> bool
+    requires state { row.now.from < lang.now.states }
+    requires letter { row.now.letter.0 < length lang.now.alphabet.letters }
+    ensures { result ≡ is_other (target_of lang.now row.now.from row.now.letter.0) row.now.to }
+{
+    let _states = lang.states();
+    match lang.target(row.from as u8, row.letter) {
+        Some(entered) => u32::from(entered) != row.to,
+        None => false,
+    }
+}
+
+/// Enters the row that the words say.
+fn take_row(lang: &mut Lang, words: Words) -> Result<(), Kind>
+    requires { IsPartial lang.old }
+    ensures whole { OnOk result (IsPartial lang.new) }
+    ensures same { OnOk result (lang.new ≡ record lang.old { targets = lang.new.targets }) }
+    ensures rows { (rows : List declared_row.Row) → AreEntered lang.old.targets (length lang.old.alphabet.letters) rows → MatchResult result
+        (λ _. (row_line_fault lang.old.states lang.old.alphabet.letters rows words.entry ≡ None)
+        × AreEntered lang.new.targets (length lang.old.alphabet.letters) (rows ++ rows_said lang.old.alphabet.letters Head.Row words.entry))
+        (λ kind. row_line_fault lang.old.states lang.old.alphabet.letters rows words.entry ≡ Some kind) }
+{
+    let row = row_said(lang, words)?;
+    if is_contradicted(lang, &row) {
+        return Err(Kind::TwoTargets);
+    }
+    lang.enter(row);
+    Ok(())
+}
+
+/// Appends the letter of a name to a script.
+fn add_step(
+    alphabet: &Alphabet,
+    scripts: &mut Scripts,
+    p: usize,
+    name: &[u8],
+) -> Result<(), Refusal>
+    requires process { p < length scripts.old }
+    requires of_alphabet { p < alphabet.now.processes }
+    requires limits { AreScripts scripts.old }
+    ensures { let fault = step_fault alphabet.now.letters p (total_of scripts.old) (place_of alphabet.now.letters name.now) in MatchResult result
+        (λ _. (fault ≡ None) × AreAdded alphabet.now scripts.old scripts.new p (option_to_list (place_of alphabet.now.letters name.now)))
+        (IsWrong fault) }
+{
+    let Some(a) = alphabet.find(name) else {
+        return Err(Refusal::Wrong(Kind::NoSuchLetter));
+    };
+    match scripts.add(alphabet, p, a) {
+        Ok(()) => Ok(()),
+        Err(fault) => match fault {
+            ScriptFault::Foreign { .. } => Err(Refusal::Wrong(Kind::NotOfProcess)),
+            ScriptFault::Full => Err(Refusal::Wrong(Kind::ScriptsFull)),
+            ScriptFault::OutOfMemory => Err(Refusal::OutOfMemory),
+        },
+    }
+}
+
+/// Appends the letters that the words name to a script.
+fn add_steps(
+    alphabet: &Alphabet,
+    scripts: &mut Scripts,
+    p: usize,
+    mut words: Words,
+) -> Result<(), Refusal>
+    requires process { p < length scripts.old }
+    requires of_alphabet { p < alphabet.now.processes }
+    requires limits { AreScripts scripts.old }
+    ensures { let fault = steps_fault alphabet.now.letters p (total_of scripts.old) words.entry in MatchResult result
+        (λ _. (fault ≡ None) × AreAdded alphabet.now scripts.old scripts.new p (filter_map (place_of alphabet.now.letters) words.entry))
+        (IsWrong fault) }
+{
+    while let Some(name) = words.next() {
+        add_step(alphabet, scripts, p, name)?;
+    }
+    Ok(())
+}
+
+/// What a start line says, by its words after the first.
+fn take_start(job: &mut Job, words: Words) -> Result<(), Refusal>
+    requires { IsJob (data_of job.old) }
+    ensures whole { OnOk result (IsJob (data_of job.new)) }
+    ensures taken { IsTaken Head.Start words.entry (data_of job.old) (data_of job.new) result }
+{
+    let q = start_said(job.lang.states(), words)?;
+    job.lang.start_at(q);
+    Ok(())
+}
+
+/// What an accept line says, by its words after the first.
+fn take_accept(job: &mut Job, words: Words) -> Result<(), Refusal>
+    requires { IsJob (data_of job.old) }
+    ensures whole { OnOk result (IsJob (data_of job.new)) }
+    ensures taken { IsTaken Head.Accept words.entry (data_of job.old) (data_of job.new) result }
+{
+    accept_states(&mut job.lang, words)?;
+    Ok(())
+}
+
+/// What a row line says, by its words after the first.
+fn take_row_line(job: &mut Job, words: Words) -> Result<(), Refusal>
+    requires { IsJob (data_of job.old) }
+    ensures whole { OnOk result (IsJob (data_of job.new)) }
+    ensures taken { IsTaken Head.Row words.entry (data_of job.old) (data_of job.new) result }
+{
+    take_row(&mut job.lang, words)?;
+    Ok(())
+}
+
+/// What a script line says, by its words after the first.
+fn take_script(job: &mut Job, mut words: Words) -> Result<(), Refusal>
+    requires { IsJob (data_of job.old) }
+    ensures whole { OnOk result (IsJob (data_of job.new)) }
+    ensures taken { IsTaken Head.Script words.entry (data_of job.old) (data_of job.new) result }
+{
+    let Some(word) = words.next() else {
+        return Err(Refusal::Wrong(Kind::WordCount));
+    };
+    let p = process_of(job.lang.alphabet().processes(), word)?;
+    add_steps(job.lang.alphabet(), &mut job.scripts, p, words)?;
+    Ok(())
+}
+
+/// What an end line says, which is nothing, by its words after the first.
+fn take_end(job: &mut Job, words: Words) -> Result<(), Refusal>
+    requires { IsJob (data_of job.old) }
+    ensures whole { OnOk result (IsJob (data_of job.new)) }
+    ensures taken { IsTaken Head.End words.entry (data_of job.old) (data_of job.new) result }
+{
+    match end_line_fault(words) {
+        None => Ok(()),
+        Some(kind) => Err(Refusal::Wrong(kind)),
+    }
+}
+
+/// What a line after the states line says, by its first word and the words after it.
+pub(crate) fn take_line(job: &mut Job, head: Head, words: Words) -> Result<(), Refusal>
+    requires whole { IsJob (data_of job.old) }
+    requires late { is_late_head head ≡ true }
+    ensures whole { OnOk result (IsJob (data_of job.new)) }
+    ensures taken { IsTaken head words.entry (data_of job.old) (data_of job.new) result }
+{
+    match head {
+        Head::Start => take_start(job, words),
+        Head::Accept => take_accept(job, words),
+        Head::Row => take_row_line(job, words),
+        Head::Script => take_script(job, words),
+        Head::End => take_end(job, words),
+        _ => Err(Refusal::Wrong(Kind::OutOfOrder)),
+    }
+}

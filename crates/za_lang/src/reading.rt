@@ -1,0 +1,157 @@
+ghost use Rattle.std.specs.Prelude.{◌≡◌, ◌<◌, ◌+◌, ℕ, None, Some, length, IfOk, MatchOption, MatchResult};
+ghost use Rattle.std.specs.Option.{option_or};
+ghost use Rattle.za_text.specs.Lines.{raw};
+ghost use Rattle.za_text.specs.Words.{words_of};
+ghost use Rattle.za_lang.specs.Answers.{data_of, fault_at, IsRefused, IsWrong};
+ghost use Rattle.za_text.specs.declared.kind.Kind.TheVariants.{NoEnd};
+ghost use Rattle.za_lang.specs.declared.order.Place.TheVariants.{AfterEnd};
+ghost use Rattle.za_lang.specs.declared.reading.Reading.TheVariants.{Body};
+ghost use Rattle.za_lang.specs.Documents.{Said, end_fault, fault_of, job_of, line_fault, own_fault};
+ghost use Rattle.za_lang.specs.Jobs.{IsJob};
+ghost use Rattle.za_lang.specs.Letters.{AreLetters};
+ghost use Rattle.za_lang.specs.Order.{order_fault};
+ghost use Rattle.za_lang.specs.Reading.{more, more_said};
+ghost use Rattle.za_lang.specs.Shown.{letters_told, reading_place, IsReading, Shows};
+
+use crate::fault::{JobFault, Refusal};
+use crate::gather::take_line;
+use crate::job::Job;
+use crate::letters::Letters;
+use crate::line_tests::{header_line_fault, processes_said};
+use crate::order::{Head, Place, head_of, next_place, order_fault};
+use crate::words::Words;
+use std::alloc::Global;
+use za_text::{Kind, Line, Lines, TextFault, are_allowed};
+
+/// What the lines so far have said: nothing, the header, processes and letters, or, from the states
+/// line on, a job.
+#[derive(Drop)]
+pub(crate) enum Reading {
+    Header,
+    Processes,
+    Letters(Letters),
+    Body { place: Place, job: Job },
+}
+
+impl Reading {
+    /// Where the document has come to.
+    fn place(&self) -> Place
+        ensures { result ≡ reading_place self.now }
+    {
+        match self {
+            Reading::Header => Place::AtHeader,
+            Reading::Processes => Place::AtProcesses,
+            Reading::Letters(letters) => letters.place(),
+            Reading::Body { place, .. } => *place,
+        }
+    }
+
+    /// What a line says, by its first word and the words after it.
+    fn after_words(self, alloc: Global, head: Head, words: Words) -> Result<Reading, Refusal>
+        requires { IsReading self }
+        ensures whole { IfOk result IsReading }
+        ensures taken { (s : Said) → Shows self s → MatchResult result
+            (λ reading. (option_or (order_fault s.place head) (own_fault s head words.entry) ≡ None) × Shows reading (more_said s head words.entry))
+            (IsWrong (option_or (order_fault s.place head) (own_fault s head words.entry))) }
+    {
+        if let Some(kind) = order_fault(self.place(), head) {
+            return Err(Refusal::Wrong(kind));
+        }
+        match self {
+            Reading::Header => match header_line_fault(words) {
+                Some(kind) => Err(Refusal::Wrong(kind)),
+                None => Ok(Reading::Processes),
+            },
+            Reading::Processes => {
+                let processes = processes_said(words)? as usize;
+                Ok(Reading::Letters(Letters {
+                    processes,
+                    rows: Vec::new(alloc),
+                }))
+            }
+            Reading::Letters(letters) => letters.after(alloc, head, words),
+            Reading::Body { place, mut job } => {
+                take_line(&mut job, head, words)?;
+                Ok(Reading::Body {
+                    place: next_place(place, head),
+                    job,
+                })
+            }
+        }
+    }
+
+    /// What a line says, or its first test that fails.
+    #[tactic(auto, unfolding(crate::specs::Documents::line_fault))]
+    fn after(self, alloc: Global, line: &Line) -> Result<Reading, Refusal>
+        requires { IsReading self }
+        ensures whole { IfOk result IsReading }
+        ensures taken { (s : Said) → Shows self s → MatchResult result
+            (λ reading. (line_fault s (raw line.now) ≡ None) × Shows reading (more s (words_of line.now.text.now)))
+            (IsWrong (line_fault s (raw line.now))) }
+    {
+        if !line.whole {
+            return Err(Refusal::Wrong(Kind::Cut));
+        }
+        if !are_allowed(line.text) {
+            return Err(Refusal::Wrong(Kind::BadByte));
+        }
+        let mut words = Words::new(line);
+        match words.next() {
+            None => Ok(self),
+            Some(first) => self.after_words(alloc, head_of(first), words),
+        }
+    }
+
+    /// The job, if the document has come to its end.
+    fn into_job(self) -> Option<Job>
+        ensures { MatchOption result
+            ((n : ℕ) → end_fault (reading_place self) n ≡ Some (record { line = n + 1; kind = NoEnd }))
+            (λ job. self ≡ Body AfterEnd job) }
+    {
+        match self {
+            Reading::Body { place, job } => match place {
+                Place::AfterEnd => Some(job),
+                _ => None,
+            },
+            _ => None,
+        }
+    }
+}
+
+/// Reads a document of fewer than 4,294,967,295 bytes by its grammar, in one pass over its lines. It
+/// is refused at the first line that is wrong, with the first of that line's tests that fails, or,
+/// where each line is right and the last `end` is missing, at one more than the number of lines.
+/// `OutOfMemory` comes only where memory is refused. The bytes are kept by nothing that is answered.
+pub fn read_job(alloc: Global, bytes: &[u8]) -> Result<Job, JobFault>
+    requires { length bytes.now < 4294967295 }
+    ensures answer { MatchResult result
+        (λ job. (fault_of bytes.now ≡ None) × (data_of job ≡ job_of bytes.now))
+        (IsRefused bytes.now) }
+    ensures job { IfOk result (λ job. IsJob (data_of job)) }
+{
+    let mut lines = Lines::new(bytes);
+    let mut reading = Reading::Header;
+    'lines: while let Some(line) = lines.next() {
+        reading = match reading.after(alloc, &line) {
+            Ok(reading) => reading,
+            Err(refusal) => return Err(fault_at(line.number, refusal)),
+        };
+    }
+    match reading.into_job() {
+        Some(job) => Ok(job),
+        None => Err(JobFault::Text(TextFault {
+            line: lines.passed() + 1,
+            kind: Kind::NoEnd,
+        })),
+    }
+}
+
+/// A refusal at a line.
+fn fault_at(line: u32, refusal: Refusal) -> JobFault
+    ensures { result ≡ fault_at line refusal }
+{
+    match refusal {
+        Refusal::Wrong(kind) => JobFault::Text(TextFault { line, kind }),
+        Refusal::OutOfMemory => JobFault::OutOfMemory,
+    }
+}
