@@ -1,0 +1,6 @@
+pub mod LineLemmas
+pub mod PrintedLines
+pub mod Decimals
+pub mod Runs
+pub mod Facts
+pub mod ReadBack

@@ -1,0 +1,332 @@
+-- A printed job is read back.
+use Rattle.std.proofs.Common.{◌≡◌, ◌∙◌, ap, sym, subst, ℕ, ◌+◌, ◌<◌, ◌≤◌, ◌^◌, zero, suc, Bool, true, false, not, ◌&&◌, List, [], ◌∷◌, ◌++◌, length, map, refl, append_assoc, length-append, arith, Option, None, ltb-true, inl, inr}
+use Rattle.std.specs.Prelude.{◌==◌, nat_le, nat_lt, decimal, codes}
+use Rattle.std.specs.List.{list_all, flat_map, range_with_len, AllByRecursion}
+use Rattle.std.proofs.lemmas.Bool.{and_parts, cases_eq}
+use Rattle.std.proofs.lemmas.Grind.{common_steps}
+use Rattle.std.proofs.lemmas.Bool.Decides.{nat_tests}
+use Rattle.std.proofs.lemmas.List.{append-nil, ext_get_or, length-map}
+use Rattle.std.proofs.lemmas.List.FromFn.{get_or-map-range_with_len, length-map-range_with_len}
+use Rattle.za_text.specs.Names.{begins_with_digit, is_name, is_name_byte}
+use Rattle.za_alpha.specs.Procs.{members}
+use Rattle.za_alpha.specs.Alphabet.{NamedLetter, DistributedAlphabet, name_at}
+use Rattle.za_dfa.specs.declared.rows.Row.{Row}
+use Rattle.za_script.specs.Scripts.{total}
+use Rattle.za_script.specs.ScriptLists.{script_of, IsLetterOf}
+use Rattle.za_lang.specs.Langs.{rows_of}
+use Rattle.za_lang.specs.Jobs.{JobData, IsJob}
+use Rattle.za_lang.specs.Order.{head_of, order_fault}
+use Rattle.za_lang.specs.Documents.{Said, Step, said, words_fault, faults_from, fault_of, joined, job_said, job_of, scripts_said}
+use Rattle.za_print.specs.Printed.{number_line, letter_line, accepting_states, accept_line, row_line, row_lines, script_line, script_lines, job_lines, printed}
+use Rattle.za_print.proofs.PrintedLines.{CanPrint, is_inner, IsLine, lines_of_text}
+use Rattle.za_print.proofs.Decimals.{number_of-decimal, numbers-decimal, word-decimal}
+use Rattle.za_lang.specs.Reading.{more}
+use Rattle.za_lang.specs.Shown.{nothing}
+use Rattle.za_lang.proofs.Saying.{said_none}
+use Rattle.za_print.proofs.Runs.{RunsTo, runs_on, runs_whole, small_numbers, AreLetters, placed, after_letters, letters_run, accepts_right, Finds, AreRows, after_rows, rows_run, StepFits, steps_right, steps_by_one, script_said}
+use Rattle.za_print.proofs.Facts.{one_by_one, weaker_by_one, finds_letters, letters_fit, rows_fit, targets_back, accepting_below, accepting_back}
+
+line_run : (s t u : Said) (ws : List (List ℕ)) (wss : List (List (List ℕ))) → words_fault s ws ≡ None → t ≡ more s ws → RunsTo t wss u → RunsTo s (ws ∷ wss) u
+line_run s t u ws wss f e r = (f, subst (λ (x : Said). RunsTo x wss u) e r)
+
+letters_are : (s : Said) (ls : List NamedLetter) → 0 < length ls → after_letters s ls ≡ placed (codes "letter") (record s { letters = s.letters ++ ls })
+letters_are s [] some = absurd (omega arith)
+letters_are s (l ∷ []) some = refl
+letters_are s (l ∷ m ∷ ls) some =
+    letters_are (placed (codes "letter") (record s { letters = s.letters ++ l ∷ [] })) (m ∷ ls) (omega arith)
+    ∙ ap (λ (xs : List NamedLetter). placed (codes "letter") (record s { letters = xs })) (append_assoc s.letters (l ∷ []) (m ∷ ls))
+
+rows_are : (s : Said) (rows : List Row) → after_rows s rows ≡ record s { rows = s.rows ++ rows }
+rows_are s [] = simp append-nil
+rows_are s (row ∷ rows) =
+    rows_are (record s { rows = s.rows ++ row ∷ [] }) rows
+    ∙ ap (λ (xs : List Row). record s { rows = xs }) (append_assoc s.rows (row ∷ []) rows)
+
+-- ---- scripts
+
+-- the letters of the scripts of k processes, from process p on
+abbrev steps_of_range : List (List ℕ) → ℕ → ℕ → List Step
+steps_of_range scripts p k = flat_map (λ q. steps_by_one q (script_of scripts q)) (range_with_len p k)
+
+-- how many they are
+abbrev lengths_from : List (List ℕ) → ℕ → ℕ → ℕ
+lengths_from scripts p zero = 0
+lengths_from scripts p (suc k) = length (script_of scripts p) + lengths_from scripts (p + 1) k
+
+abbrev after_scripts : Said → List (List ℕ) → ℕ → ℕ → Said
+after_scripts s scripts p zero = s
+after_scripts s scripts p (suc k) = after_scripts (placed (codes "script") (record s { steps = s.steps ++ steps_by_one p (script_of scripts p) })) scripts (p + 1) k
+
+abbrev AreFit : DistributedAlphabet → List (List ℕ) → Type 0
+AreFit alphabet scripts = (q : ℕ) → q < alphabet.processes → AllByRecursion (StepFits alphabet.letters q) (script_of scripts q)
+
+scripts_run : (alphabet : DistributedAlphabet) (scripts : List (List ℕ)) (s : Said) (p k : ℕ) → alphabet.processes < 2 ^ 32 → Finds alphabet.letters → AreFit alphabet scripts
+    → s.processes ≡ alphabet.processes → s.letters ≡ alphabet.letters → order_fault s.place (head_of (codes "script")) ≡ None
+    → p + k ≤ alphabet.processes → length s.steps + lengths_from scripts p k ≤ 65536
+    → RunsTo s (map (script_line alphabet scripts) (range_with_len p k)) (after_scripts s scripts p k)
+scripts_run alphabet scripts s p zero few finds fits counts letters o inside room = refl
+scripts_run alphabet scripts s p (suc k) few finds fits counts letters o inside room =
+    let script = script_of scripts p in
+    let own : AllByRecursion (StepFits alphabet.letters p) script = fits p (omega arith) in
+    let n = number_of-decimal p (omega arith) in
+    let there : nat_lt p alphabet.processes ≡ true = let low : p < alphabet.processes = omega arith in grind (arith, nat_tests) in
+    let right = steps_right alphabet.letters p (length s.steps) script finds own (omega arith) in
+    let said = script_said alphabet.letters p script finds own in
+    let t : Said = placed (codes "script") (record s { steps = s.steps ++ steps_by_one p script }) in
+    let size : length (s.steps ++ steps_by_one p script) ≡ length s.steps + length script = length-append s.steps (steps_by_one p script) ∙ ap (λ m. length s.steps + m) (length-map script (λ (a : ℕ). let step : Step = record { process = p; letter = a } in step)) in
+    line_run s t (after_scripts t scripts (p + 1) k) (script_line alphabet scripts p) (map (script_line alphabet scripts) (range_with_len (p + 1) k))
+    (rw (o, n, counts, there, letters, right)) (rw (n, letters, said) (simp append-nil))
+    (scripts_run alphabet scripts t (p + 1) k few finds fits counts letters refl (omega arith) (omega arith))
+
+scripts_are : (scripts : List (List ℕ)) (s : Said) (p k : ℕ) → 0 < k
+    → after_scripts s scripts p k ≡ placed (codes "script") (record s { steps = s.steps ++ steps_of_range scripts p k })
+scripts_are scripts s p zero some = absurd (omega arith)
+scripts_are scripts s p (suc zero) some = simp append-nil
+scripts_are scripts s p (suc (suc k)) some =
+    let here = steps_by_one p (script_of scripts p) in
+    scripts_are scripts (placed (codes "script") (record s { steps = s.steps ++ here })) (p + 1) (suc k) (omega arith)
+    ∙ ap (λ (xs : List Step). placed (codes "script") (record s { steps = xs })) (append_assoc s.steps here (steps_of_range scripts (p + 1) (suc k)))
+
+lengths_split : (scripts : List (List ℕ)) (p k : ℕ) → total (script_of scripts) p + lengths_from scripts p k ≡ total (script_of scripts) (p + k)
+lengths_split scripts p zero = let e : p + 0 ≡ p = omega arith in rw e (omega arith)
+lengths_split scripts p (suc k) =
+    let next = lengths_split scripts (p + 1) k in
+    let one : total (script_of scripts) (p + 1) ≡ total (script_of scripts) p + length (script_of scripts p) = total_one p in
+    let e : p + 1 + k ≡ p + suc k = omega arith in
+    let moved : total (script_of scripts) (p + 1) + lengths_from scripts (p + 1) k ≡ total (script_of scripts) (p + suc k) = next ∙ ap (total (script_of scripts)) e in
+    omega arith
+  where
+    total_one : (q : ℕ) → total (script_of scripts) (q + 1) ≡ total (script_of scripts) q + length (script_of scripts q)
+    total_one q = let e : q + 1 ≡ suc q = omega arith in ap (total (script_of scripts)) e
+
+-- ---- words that can be printed
+
+name_inner : (b : ℕ) → is_name_byte b ≡ true → is_inner b ≡ true
+name_inner b h = grind (arith, nat_tests)
+
+names_inner : (bs : List ℕ) → list_all is_name_byte bs ≡ true → list_all is_inner bs ≡ true
+names_inner [] h = refl
+names_inner (b ∷ bs) h =
+    let parts = and_parts (is_name_byte b) (list_all is_name_byte bs) h in
+    let e = name_inner b parts.0 in
+    rw e (names_inner bs parts.1)
+
+name_word : (name : List ℕ) → is_name name ≡ true → CanPrint name
+name_word [] h = absurd (cc)
+name_word (b ∷ bs) h =
+    let parts = and_parts (nat_le 1 (length (b ∷ bs)) && nat_le (length (b ∷ bs)) 32 && not (begins_with_digit (b ∷ bs))) (list_all is_name_byte (b ∷ bs)) h in
+    record { some = omega arith; inner = names_inner (b ∷ bs) parts.1 }
+
+numbers_words : (ns : List ℕ) → AllByRecursion (λ n. n < 2 ^ 32) ns → AllByRecursion CanPrint (map decimal ns)
+numbers_words [] h = tt
+numbers_words (n ∷ ns) h = (word-decimal n h.0, numbers_words ns h.1)
+
+literal : (w : List ℕ) → nat_lt 0 (length w) ≡ true → list_all is_inner w ≡ true → CanPrint w
+literal w some inner = record { some = ltb-true _ _ some; inner = inner }
+
+letters_lines : (n : ℕ) (front ls : List NamedLetter) → n < 2 ^ 32 → AreLetters n front ls → AllByRecursion IsLine (map letter_line ls)
+letters_lines n front [] few h = tt
+letters_lines n front (l ∷ ls) few h =
+    ((literal (codes "letter") refl refl, (name_word l.name h.0.name, numbers_words (members l.loc) (small_numbers n (members l.loc) few h.0.procs))), letters_lines n (front ++ l ∷ []) ls few h.1)
+
+rows_lines : (states : ℕ) (letters : List NamedLetter) (front rows : List Row) → states < 2 ^ 32 → ((a : ℕ) → a < length letters → CanPrint (name_at letters a))
+    → AreRows states letters front rows → AllByRecursion IsLine (map (row_line letters) rows)
+rows_lines states letters front [] few w h = tt
+rows_lines states letters front (row ∷ rows) few w h = (
+  (literal (codes "row") refl refl, (word-decimal row.from (omega (arith, h.0.from)), (w row.letter.0 h.0.letter, (word-decimal row.to (omega (arith, h.0.to)), tt)))),
+  rows_lines states letters (front ++ row ∷ []) rows few w h.1,
+)
+
+script_words : (letters : List NamedLetter) (p : ℕ) (script : List ℕ) → ((a : ℕ) → a < length letters → CanPrint (name_at letters a))
+    → AllByRecursion (StepFits letters p) script → AllByRecursion CanPrint (map (name_at letters) script)
+script_words letters p [] w h = tt
+script_words letters p (a ∷ script) w h = (w a h.0.letter, script_words letters p script w h.1)
+
+scripts_lines : (alphabet : DistributedAlphabet) (scripts : List (List ℕ)) (p k : ℕ) → alphabet.processes < 2 ^ 32 → ((a : ℕ) → a < length alphabet.letters → CanPrint (name_at alphabet.letters a))
+    → AreFit alphabet scripts → p + k ≤ alphabet.processes → AllByRecursion IsLine (map (script_line alphabet scripts) (range_with_len p k))
+scripts_lines alphabet scripts p zero few w fits inside = tt
+scripts_lines alphabet scripts p (suc k) few w fits inside = (
+  (literal (codes "script") refl refl, (word-decimal p (omega arith), script_words alphabet.letters p (script_of scripts p) w (fits p (omega arith)))),
+  scripts_lines alphabet scripts (p + 1) k few w fits (omega arith),
+)
+
+both_lines : (xs ys : List (List (List ℕ))) → AllByRecursion IsLine xs → AllByRecursion IsLine ys → AllByRecursion IsLine (xs ++ ys)
+both_lines [] ys h k = k
+both_lines (x ∷ xs) ys h k = (h.0, both_lines xs ys h.1 k)
+
+-- ---- the scripts that steps say
+
+joined-append : (xs ys : List Step) (q : ℕ) → joined (xs ++ ys) q ≡ joined xs q ++ joined ys q
+joined-append xs ys q = grind (arith, common_steps)
+
+joined_own : (q : ℕ) (script : List ℕ) → joined (steps_by_one q script) q ≡ script
+joined_own q [] = refl
+joined_own q (a ∷ script) = let e : (q == q) ≡ true = grind (arith, nat_tests) in rw e (ap (λ xs. a ∷ xs) (joined_own q script))
+
+joined_none : (r q : ℕ) (script : List ℕ) → (r == q) ≡ false → joined (steps_by_one r script) q ≡ []
+joined_none r q [] h = refl
+joined_none r q (a ∷ script) h = rw h (joined_none r q script h)
+
+joined_before : (scripts : List (List ℕ)) (p k q : ℕ) → q < p → joined (steps_of_range scripts p k) q ≡ []
+joined_before scripts p zero q h = refl
+joined_before scripts p (suc k) q h =
+    let e : (p == q) ≡ false = grind (arith, nat_tests) in
+    joined-append (steps_by_one p (script_of scripts p)) (steps_of_range scripts (p + 1) k) q
+    ∙ rw (joined_none p q (script_of scripts p) e) (joined_before scripts (p + 1) k q (omega arith))
+
+joined_at : (scripts : List (List ℕ)) (p k q : ℕ) → p ≤ q → q < p + k → joined (steps_of_range scripts p k) q ≡ script_of scripts q
+joined_at scripts p zero q low high = absurd (omega arith)
+joined_at scripts p (suc k) q low high =
+    joined-append (steps_by_one p (script_of scripts p)) (steps_of_range scripts (p + 1) k) q
+    ∙ elim (cases_eq q p) [
+      | inl e ↦
+          subst (λ r. joined (steps_by_one r (script_of scripts r)) q ++ joined (steps_of_range scripts (p + 1) k) q ≡ script_of scripts q) e
+          (rw (joined_own q (script_of scripts q), joined_before scripts (p + 1) k q (omega arith)) (append-nil (script_of scripts q)))
+      | inr ne ↦
+          let apart : (p == q) ≡ false = grind (arith, nat_tests) in
+          rw (joined_none p q (script_of scripts p) apart) (joined_at scripts (p + 1) k q (omega arith) (omega arith))
+    ]
+
+-- ---- the lines of a job are right, and say the job
+
+module _ (job : JobData) (whole : IsJob job) where
+  abbrev alphabet : DistributedAlphabet
+  alphabet = job.lang.alphabet
+
+  -- what the lines say
+  abbrev told : Said
+  told = placed (codes "end") (record nothing {
+    processes = alphabet.processes;
+    letters = alphabet.letters;
+    states = job.lang.states;
+    start = job.lang.start;
+    accepts = accepting_states job.lang;
+    rows = rows_of job.lang;
+    steps = steps_of_range job.scripts 0 alphabet.processes;
+  })
+
+  finds : Finds alphabet.letters
+  finds = finds_letters alphabet whole.lang.distributed
+
+  scripts_fit : (q : ℕ) → q < alphabet.processes → AllByRecursion (StepFits alphabet.letters q) (script_of job.scripts q)
+  scripts_fit q h =
+      let size = whole.fit.processes in
+      weaker_by_one (IsLetterOf alphabet q) (StepFits alphabet.letters q) (script_of job.scripts q) (λ a own. record { letter = own.letter; own = own.own })
+      (one_by_one (IsLetterOf alphabet q) (script_of job.scripts q) (whole.fit.own q (omega arith)))
+
+  room : 0 + lengths_from job.scripts 0 alphabet.processes ≤ 65536
+  room =
+      let split = lengths_split job.scripts 0 alphabet.processes in
+      let size = whole.fit.processes in
+      let most = whole.scripts.few_letters in
+      let same : total (script_of job.scripts) (0 + alphabet.processes) ≡ total (script_of job.scripts) (length job.scripts) =
+      let e : 0 + alphabet.processes ≡ length job.scripts = omega arith in ap (total (script_of job.scripts)) e in
+      omega arith
+
+  job_runs : RunsTo nothing (job_lines job) told
+  job_runs =
+      let most = whole.lang.distributed.few_processes in
+      let least = whole.lang.distributed.some_process in
+      let many = whole.lang.few_states in
+      let some = whole.lang.some_state in
+      let first = whole.lang.starts in
+      let few : alphabet.processes < 2 ^ 32 = omega arith in
+      let states_few : job.lang.states < 2 ^ 32 = omega arith in
+      let n = number_of-decimal alphabet.processes few in
+      let m = number_of-decimal job.lang.states states_few in
+      let q = number_of-decimal job.lang.start (omega arith) in
+      let low : nat_le 1 alphabet.processes ≡ true = grind (arith, nat_tests) in
+      let high : nat_le alphabet.processes 6 ≡ true = grind (arith, nat_tests) in
+      let low' : nat_le 1 job.lang.states ≡ true = grind (arith, nat_tests) in
+      let high' : nat_le job.lang.states 32 ≡ true = grind (arith, nat_tests) in
+      let begin : nat_lt job.lang.start job.lang.states ≡ true = grind (arith, nat_tests) in
+      let accepts = accepting_states job.lang in
+      let below = accepting_below job.lang whole.lang in
+      let acc = accepts_right job.lang.states accepts states_few below in
+      let accs = numbers-decimal accepts (small_numbers job.lang.states accepts states_few below) in
+      let s1 : Said = placed (codes "zla") nothing in
+      let s2 : Said = placed (codes "processes") (record s1 { processes = alphabet.processes }) in
+      let s3 : Said = placed (codes "letter") (record s2 { letters = alphabet.letters }) in
+      let s4 : Said = placed (codes "states") (record s3 { states = job.lang.states }) in
+      let s5 : Said = placed (codes "start") (record s4 { start = job.lang.start }) in
+      let s6 : Said = placed (codes "accept") (record s5 { accepts = accepts }) in
+      let s7 : Said = record s6 { rows = rows_of job.lang } in
+      let s8 : Said = placed (codes "script") (record s7 { steps = steps_of_range job.scripts 0 alphabet.processes }) in
+      let end : RunsTo s8 ((codes "end" ∷ []) ∷ []) told = (refl, simp append-nil) in
+      let run_scripts : RunsTo s7 (script_lines alphabet job.scripts) s8 =
+      subst (λ (x : Said). RunsTo s7 (script_lines alphabet job.scripts) x) (scripts_are job.scripts s7 0 alphabet.processes least)
+      (scripts_run alphabet job.scripts s7 0 alphabet.processes few finds scripts_fit refl refl refl (omega arith) room) in
+      let run_rows : RunsTo s6 (row_lines job.lang) s7 =
+      subst (λ (x : Said). RunsTo s6 (row_lines job.lang) x) (rows_are s6 (rows_of job.lang))
+      (rows_run s6 (rows_of job.lang) states_few finds refl refl (rows_fit job.lang whole.lang)) in
+      let run_letters : RunsTo s2 (map letter_line alphabet.letters) s3 =
+      subst (λ (x : Said). RunsTo s2 (map letter_line alphabet.letters) x) (letters_are s2 alphabet.letters whole.lang.distributed.some_letter)
+      (letters_run s2 alphabet.letters few refl (letters_fit alphabet whole.lang.distributed)) in
+      let l_end : List (List (List ℕ)) = (codes "end" ∷ []) ∷ [] in
+      let l_scripts : List (List (List ℕ)) = script_lines alphabet job.scripts ++ l_end in
+      let l_rows : List (List (List ℕ)) = row_lines job.lang ++ l_scripts in
+      let l_accept : List (List (List ℕ)) = accept_line job.lang ∷ l_rows in
+      let l_start : List (List (List ℕ)) = number_line (codes "start") job.lang.start ∷ l_accept in
+      let l_states : List (List (List ℕ)) = number_line (codes "states") job.lang.states ∷ l_start in
+      let l_letters : List (List (List ℕ)) = map letter_line alphabet.letters ++ l_states in
+      let l_processes : List (List (List ℕ)) = number_line (codes "processes") alphabet.processes ∷ l_letters in
+      let tail = runs_on s6 s7 told (row_lines job.lang) l_scripts run_rows (runs_on s7 s8 told (script_lines alphabet job.scripts) l_end run_scripts end) in
+      let six = line_run s5 s6 told (accept_line job.lang) l_rows (rw acc) (rw accs (simp append-nil)) tail in
+      let five = line_run s4 s5 told (number_line (codes "start") job.lang.start) l_accept (rw (q, begin)) (rw q (simp append-nil)) six in
+      let four = line_run s3 s4 told (number_line (codes "states") job.lang.states) l_start (rw (m, low', high')) (rw m (simp append-nil)) five in
+      let three = runs_on s2 s3 told (map letter_line alphabet.letters) l_states run_letters four in
+      let two = line_run s1 s2 told (number_line (codes "processes") alphabet.processes) l_letters (rw (n, low, high)) (rw n (simp append-nil)) three in
+      line_run nothing s1 told (codes "zla" ∷ codes "1" ∷ []) l_processes refl refl two
+
+  named : (a : ℕ) → a < length alphabet.letters → CanPrint (name_at alphabet.letters a)
+  named a h = name_word (name_at alphabet.letters a) (whole.lang.distributed.names a h)
+
+  job_are_lines : AllByRecursion IsLine (job_lines job)
+  job_are_lines =
+      let most = whole.lang.distributed.few_processes in
+      let many = whole.lang.few_states in
+      let first = whole.lang.starts in
+      let few : alphabet.processes < 2 ^ 32 = omega arith in
+      let states_few : job.lang.states < 2 ^ 32 = omega arith in
+      let accepts = accepting_states job.lang in (
+        (literal (codes "zla") refl refl, (literal (codes "1") refl refl, tt)),
+        (
+          (literal (codes "processes") refl refl, (word-decimal alphabet.processes few, tt)),
+          both_lines (map letter_line alphabet.letters) _ (letters_lines alphabet.processes [] alphabet.letters few (letters_fit alphabet whole.lang.distributed)) (
+            (literal (codes "states") refl refl, (word-decimal job.lang.states states_few, tt)),
+            (
+              (literal (codes "start") refl refl, (word-decimal job.lang.start (omega arith), tt)),
+              (
+                (literal (codes "accept") refl refl, numbers_words accepts (small_numbers job.lang.states accepts states_few (accepting_below job.lang whole.lang))),
+                both_lines (row_lines job.lang) _ (rows_lines job.lang.states alphabet.letters [] (rows_of job.lang) states_few named (rows_fit job.lang whole.lang))
+                    (both_lines (script_lines alphabet job.scripts) _ (scripts_lines alphabet job.scripts 0 alphabet.processes few named scripts_fit (omega arith))
+                    ((literal (codes "end") refl refl, tt), tt)),
+              ),
+            ),
+          ),
+        ),
+      )
+
+  scripts_back : scripts_said told ≡ job.scripts
+  scripts_back =
+      let n = alphabet.processes in
+      let size : length (scripts_said told) ≡ n = length-map-range_with_len (joined told.steps) 0 n in
+      ext_get_or [] (scripts_said told) job.scripts (size ∙ sym whole.fit.processes)
+      (λ q h.
+      let below : q < n = omega arith in
+      get_or-map-range_with_len (joined told.steps) 0 n q q [] below (omega arith) ∙ joined_at job.scripts 0 n q (omega arith) (omega arith))
+
+  -- what is read is the job
+  job_back : job_said told ≡ job
+  job_back =
+      let made : List Bool → List (Option ℕ) → List (List ℕ) → JobData =
+      λ accepting targets scripts. record { lang = record { alphabet = alphabet; states = job.lang.states; start = job.lang.start; accepting = accepting; targets = targets }; scripts = scripts } in
+      ap (λ accepting. made accepting (job_said told).lang.targets (job_said told).scripts) (accepting_back job.lang whole.lang)
+      ∙ ap (λ targets. made job.lang.accepting targets (job_said told).scripts) (targets_back job.lang whole.lang)
+      ∙ ap (made job.lang.accepting job.lang.targets) scripts_back
+
+  pub read_back : (fault_of (printed job) ≡ None) × (job_of (printed job) ≡ job)
+  read_back =
+      let lines = lines_of_text (job_lines job) job_are_lines in
+      let run = runs_whole [] nothing told (job_lines job) job_are_lines said_none job_runs refl in
+      (ap (faults_from []) lines ∙ run.0, ap (λ ls. job_said (said ls)) lines ∙ ap job_said run.1 ∙ job_back)

@@ -1,0 +1,179 @@
+//! The printed form of a job.
+
+ghost use Rattle.std.specs.Prelude.{◌≡◌, None, ◌<◌, ◌≤◌, ◌*◌, ◌++◌, ◌∷◌, [], IfOk, OnOk, length, map, codes, decimal};
+ghost use Rattle.std.specs.List.{range_with_len};
+ghost use Rattle.std.specs.Option.{option_to_list};
+ghost use Rattle.za_alpha.specs.Procs.{members};
+ghost use Rattle.za_dfa.specs.declared.rows.TheConstants.{MOST_STATES};
+ghost use Rattle.za_script.specs.ScriptLists.{FitAlphabet};
+ghost use Rattle.za_text.specs.Printed.{spaced, line, text_of};
+ghost use Rattle.za_lang.specs.Answers.{data_of};
+ghost use Rattle.za_lang.specs.Documents.{fault_of, job_of};
+ghost use Rattle.za_lang.specs.Langs.{row_of_cell};
+ghost use Rattle.za_print.specs.Printed.{letter_line, accepting_states, accept_line, row_line, row_lines, script_line, printed};
+
+use crate::text::{push_names, push_number, push_number_if, push_number_line, push_word};
+use std::alloc::Global;
+use za_alpha::{Alphabet, Letter, OutOfMemory, Procs};
+use za_dfa::Row;
+use za_lang::{Job, Lang};
+use za_script::Scripts;
+
+/// How many processes a set can tell apart.
+const WIDTH: usize = 16;
+
+/// The processes of a set in rising order, each after a space.
+fn push_processes(text: &mut Vec<u8>, processes: Procs) -> Result<(), OutOfMemory>
+    ensures { OnOk result (text.new.items ≡ text.old.items ++ spaced (map decimal (members processes))) }
+{
+    for p in 0..WIDTH {
+        push_number_if(text, processes.has(p), p)?;
+    }
+    Ok(())
+}
+
+/// The line of a letter.
+fn push_letter(text: &mut Vec<u8>, name: &[u8], processes: Procs) -> Result<(), OutOfMemory>
+    ensures { OnOk result (text.new.items ≡ text.old.items ++ line (codes "letter" ∷ name.now ∷ map decimal (members processes))) }
+{
+    text.extend_from_slice(b"letter")?;
+    push_word(text, name)?;
+    push_processes(text, processes)?;
+    text.push(b'\n')?;
+    Ok(())
+}
+
+/// The lines of all letters.
+fn push_letters(text: &mut Vec<u8>, alphabet: &Alphabet) -> Result<(), OutOfMemory>
+    ensures { OnOk result (text.new.items ≡ text.old.items ++ text_of (map letter_line alphabet.now.letters)) }
+{
+    for a in 0..alphabet.letters() {
+        let letter = Letter(a as u8);
+        push_letter(text, alphabet.name(letter), alphabet.loc(letter))?;
+    }
+    Ok(())
+}
+
+/// The accepting states in rising order, each after a space.
+fn push_accepting(text: &mut Vec<u8>, lang: &Lang) -> Result<(), OutOfMemory>
+    ensures { OnOk result (text.new.items ≡ text.old.items ++ spaced (map decimal (accepting_states lang.now))) }
+{
+    for q in 0..lang.states() {
+        push_number_if(text, lang.accepting(q as u8), q)?;
+    }
+    Ok(())
+}
+
+/// The line of the accepting states.
+fn push_accept_line(text: &mut Vec<u8>, lang: &Lang) -> Result<(), OutOfMemory>
+    ensures { OnOk result (text.new.items ≡ text.old.items ++ line (accept_line lang.now)) }
+{
+    text.extend_from_slice(b"accept")?;
+    push_accepting(text, lang)?;
+    text.push(b'\n')?;
+    Ok(())
+}
+
+/// The line that says where a letter leads from a state.
+fn push_row(text: &mut Vec<u8>, alphabet: &Alphabet, row: Row) -> Result<(), OutOfMemory>
+    requires { row.letter.0 < length alphabet.now.letters }
+    ensures { OnOk result (text.new.items ≡ text.old.items ++ line (row_line alphabet.now.letters row)) }
+{
+    text.extend_from_slice(b"row")?;
+    push_number(text, row.from as usize)?;
+    push_word(text, alphabet.name(row.letter))?;
+    push_number(text, row.to as usize)?;
+    text.push(b'\n')?;
+    Ok(())
+}
+
+/// The line of a cell of the table, if it has a target. Cell `q * m + a` is that of state `q` and
+/// letter `a`, where there are `m` letters.
+fn push_cell(text: &mut Vec<u8>, lang: &Lang, cell: usize) -> Result<(), OutOfMemory>
+    requires few { lang.now.states ≤ MOST_STATES }
+    requires cell { cell < lang.now.states * length lang.now.alphabet.letters }
+    ensures { OnOk result (text.new.items ≡ text.old.items ++ text_of (map (row_line lang.now.alphabet.letters) (option_to_list (row_of_cell lang.now cell)))) }
+{
+    let alphabet = lang.alphabet();
+    let q = (cell / alphabet.letters()) as u8;
+    let letter = Letter((cell % alphabet.letters()) as u8);
+    if let Some(target) = lang.target(q, letter) {
+        let row = Row {
+            from: u32::from(q),
+            letter,
+            to: u32::from(target),
+        };
+        push_row(text, alphabet, row)?;
+    }
+    Ok(())
+}
+
+/// The lines of all rows, by state and then by letter.
+fn push_rows(text: &mut Vec<u8>, lang: &Lang) -> Result<(), OutOfMemory>
+    ensures { OnOk result (text.new.items ≡ text.old.items ++ text_of (row_lines lang.now)) }
+{
+    for cell in 0..lang.states() * lang.alphabet().letters() {
+        push_cell(text, lang, cell)?;
+    }
+    Ok(())
+}
+
+/// The script line of a process.
+fn push_script(
+    text: &mut Vec<u8>,
+    alphabet: &Alphabet,
+    scripts: &Scripts,
+    p: usize,
+) -> Result<(), OutOfMemory>
+    requires fit { FitAlphabet alphabet.now scripts.now }
+    requires process { p < length scripts.now }
+    ensures { OnOk result (text.new.items ≡ text.old.items ++ line (script_line alphabet.now scripts.now p)) }
+{
+    text.extend_from_slice(b"script")?;
+    push_number(text, p)?;
+    push_names(text, alphabet, scripts.script(p).letters())?;
+    text.push(b'\n')?;
+    Ok(())
+}
+
+/// The script lines of the first processes, so many.
+fn push_scripts(
+    text: &mut Vec<u8>,
+    alphabet: &Alphabet,
+    scripts: &Scripts,
+    processes: usize,
+) -> Result<(), OutOfMemory>
+    requires fit { FitAlphabet alphabet.now scripts.now }
+    requires processes { processes ≤ length scripts.now }
+    ensures { OnOk result (text.new.items ≡ text.old.items ++ text_of (map (script_line alphabet.now scripts.now) (range_with_len 0 processes))) }
+{
+    for p in 0..processes {
+        push_script(text, alphabet, scripts, p)?;
+    }
+    Ok(())
+}
+
+/// The printed form of a job: its lines in the order of the grammar, one space between two words.
+///
+/// A letter's processes, the accepting states, the rows (by state, then by letter) and the processes of
+/// the script lines rise, and each process has one script line, also where its script is empty. The
+/// scripts have to fit the alphabet. `read_job` of the printed form answers an equal job.
+/// `OutOfMemory` comes only where memory is refused.
+pub fn print_job(alloc: Global, job: &Job) -> Result<Vec<u8>, OutOfMemory>
+    requires { FitAlphabet job.now.lang.alphabet job.now.scripts }
+    ensures text { IfOk result (λ text. text.items ≡ printed (data_of job.now)) }
+    ensures read_back { IfOk result (λ text. (fault_of text.items ≡ None) × (job_of text.items ≡ data_of job.now)) }
+{
+    let lang = &job.lang;
+    let alphabet = lang.alphabet();
+    let mut text = Vec::from_slice(alloc, b"zla 1\n")?;
+    push_number_line(&mut text, b"processes", alphabet.processes())?;
+    push_letters(&mut text, alphabet)?;
+    push_number_line(&mut text, b"states", lang.states())?;
+    push_number_line(&mut text, b"start", lang.start() as usize)?;
+    push_accept_line(&mut text, lang)?;
+    push_rows(&mut text, lang)?;
+    push_scripts(&mut text, alphabet, &job.scripts, job.scripts.processes())?;
+    text.extend_from_slice(b"end\n")?;
+    Ok(text)
+}
