@@ -1,0 +1,146 @@
+//! The text of an answer.
+
+ghost use Rattle.std.specs.Prelude.{◌≡◌, ◌↔◌, ◌<◌, ◌≤◌, ◌++◌, false, IfOk, OnOk, length, map};
+ghost use Rattle.std.specs.List.{range_with_len};
+ghost use Rattle.za_alpha.specs.Words.{IsWord};
+ghost use Rattle.za_alpha.specs.Letters.{numbers};
+ghost use Rattle.za_script.specs.ScriptLists.{FitAlphabet};
+ghost use Rattle.za_text.specs.Printed.{spaced, line, text_of};
+ghost use Rattle.za_report.specs.Texts.{IsWeave, answer_text, answer_word, process_line, process_words, stuck_lines, wait_words};
+
+use crate::bounds::push_bounds;
+use crate::closed::push_names_line;
+use std::alloc::Global;
+use za_alpha::{Alphabet, Letter, OutOfMemory};
+use za_print::{push_number, push_number_line, push_word};
+use za_script::{Answer, Scripts, Woven};
+
+/// The first word of an answer's text.
+fn word_of(answer: Answer) -> &'static [u8]
+    ensures { result.now ≡ answer_word answer }
+{
+    match answer {
+        Answer::Accept => b"accept",
+        Answer::Reject => b"reject",
+        Answer::Stuck => b"stuck",
+    }
+}
+
+/// What a process waits for after so many of its events: the next letter of its script, if there
+/// is one.
+fn push_wait(
+    text: &mut Vec<u8>,
+    alphabet: &Alphabet,
+    script: &[Letter],
+    fired: usize,
+) -> Result<(), OutOfMemory>
+    requires { IsWord (length alphabet.now.letters) (numbers script.now) }
+    ensures { OnOk result (text.new.items ≡ text.old.items ++ spaced (wait_words alphabet.now (numbers script.now) fired)) }
+{
+    if fired < script.len() {
+        push_word(text, b"waits")?;
+        push_word(text, alphabet.name(script[fired]))
+    } else {
+        push_word(text, b"ended")
+    }
+}
+
+/// The line of a process after so many of its events.
+fn push_process_words(
+    text: &mut Vec<u8>,
+    alphabet: &Alphabet,
+    script: &[Letter],
+    p: usize,
+    fired: usize,
+) -> Result<(), OutOfMemory>
+    requires { IsWord (length alphabet.now.letters) (numbers script.now) }
+    ensures { OnOk result (text.new.items ≡ text.old.items ++ line (process_words alphabet.now (numbers script.now) p fired)) }
+{
+    text.extend_from_slice(b"process")?;
+    push_number(text, p)?;
+    push_word(text, b"fired")?;
+    push_number(text, fired)?;
+    push_wait(text, alphabet, script, fired)?;
+    text.push(b'\n')?;
+    Ok(())
+}
+
+/// The line of a process where the scripts are stuck.
+fn push_process(
+    text: &mut Vec<u8>,
+    alphabet: &Alphabet,
+    scripts: &Scripts,
+    woven: &Woven,
+    p: usize,
+) -> Result<(), OutOfMemory>
+    requires fit { FitAlphabet alphabet.now scripts.now }
+    requires woven { IsWeave alphabet.now scripts.now woven.now }
+    requires process { p < alphabet.now.processes }
+    ensures { OnOk result (text.new.items ≡ text.old.items ++ line (process_line alphabet.now scripts.now woven.now.word p)) }
+{
+    let script = scripts.script(p).letters();
+    push_process_words(text, alphabet, script, p, woven.count(p))
+}
+
+/// The lines of the first processes, so many, where the scripts are stuck.
+fn push_processes(
+    text: &mut Vec<u8>,
+    alphabet: &Alphabet,
+    scripts: &Scripts,
+    woven: &Woven,
+    processes: usize,
+) -> Result<(), OutOfMemory>
+    requires fit { FitAlphabet alphabet.now scripts.now }
+    requires woven { IsWeave alphabet.now scripts.now woven.now }
+    requires processes { processes ≤ alphabet.now.processes }
+    ensures { OnOk result (text.new.items ≡ text.old.items ++ text_of (map (process_line alphabet.now scripts.now woven.now.word) (range_with_len 0 processes))) }
+{
+    for p in 0..processes {
+        push_process(text, alphabet, scripts, woven, p)?;
+    }
+    Ok(())
+}
+
+/// The lines where the scripts are stuck: each process, and the word that fired.
+fn push_stuck(
+    text: &mut Vec<u8>,
+    alphabet: &Alphabet,
+    scripts: &Scripts,
+    woven: &Woven,
+) -> Result<(), OutOfMemory>
+    requires fit { FitAlphabet alphabet.now scripts.now }
+    requires woven { IsWeave alphabet.now scripts.now woven.now }
+    ensures { OnOk result (text.new.items ≡ text.old.items ++ text_of (stuck_lines alphabet.now scripts.now woven.now.word)) }
+{
+    push_processes(text, alphabet, scripts, woven, alphabet.processes())?;
+    push_names_line(text, b"trace", alphabet, woven.word().letters())?;
+    Ok(())
+}
+
+/// The text of an answer to scripts: how many events fired, the bounds with so many cache rows, and
+/// where the scripts are stuck how far each process came, and the word that fired.
+///
+/// `woven` is what `weave` gives for this alphabet and these scripts, and the answer is stuck exactly
+/// if it isn't whole. `OutOfMemory` comes only where memory is refused.
+pub fn answer_text(
+    alloc: Global,
+    alphabet: &Alphabet,
+    scripts: &Scripts,
+    woven: &Woven,
+    answer: Answer,
+    cache: u8,
+) -> Result<Vec<u8>, OutOfMemory>
+    requires fit { FitAlphabet alphabet.now scripts.now }
+    requires woven { IsWeave alphabet.now scripts.now woven.now }
+    requires stuck { answer ≡ Answer.Stuck ↔ woven.now.whole ≡ false }
+    ensures { IfOk result (λ text. text.items ≡ answer_text alphabet.now scripts.now woven.now.word answer cache) }
+{
+    let mut text = Vec::from_slice(alloc, word_of(answer))?;
+    text.push(b'\n')?;
+    push_number_line(&mut text, b"fired", woven.word().len())?;
+    push_bounds(&mut text, alphabet, cache)?;
+    if let Answer::Stuck = answer {
+        push_stuck(&mut text, alphabet, scripts, woven)?;
+    }
+    Ok(text)
+}
