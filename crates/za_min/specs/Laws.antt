@@ -1,0 +1,9 @@
+-- What pins the minimal DFA of a language.
+use Rattle.std.specs.Prelude.{◌≡◌}
+use Rattle.za_dfa.specs.Tables.{IsComplete, automaton_of}
+use Rattle.za_min.specs.Minimal.{MinimalDfa, IsMinimalDfa, HaveSameLanguage}
+
+-- two minimal DFAs of one language over one alphabet, both numbered by their access words, are equal
+abbrev pub MinimalDfasAreOne : Type 0
+MinimalDfasAreOne =
+    (m n : MinimalDfa) → IsComplete m.dfa → IsComplete n.dfa → IsMinimalDfa m → IsMinimalDfa n → m.dfa.alphabet ≡ n.dfa.alphabet → HaveSameLanguage (automaton_of m.dfa) (automaton_of n.dfa) → m ≡ n

@@ -1,0 +1,10 @@
+//! Laws over the definitions alone.
+
+ghost use Rattle.za_min.specs.Laws.{MinimalDfasAreOne};
+
+/// Two minimal DFAs of one language over one alphabet, both numbered by their shortlex-least access
+/// words, are equal, and so are these words.
+#[tactic(auto, using(crate::proofs::Canonical::minimal_dfas_are_one))]
+pub fn minimal_dfas_are_one()
+    ensures { MinimalDfasAreOne }
+{}
