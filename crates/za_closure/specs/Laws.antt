@@ -1,0 +1,18 @@
+-- When a language is trace-closed.
+use Rattle.std.specs.Prelude.{◌≡◌, ℕ, List, ◌↔◌}
+use Rattle.za_alpha.specs.Words.{IsAlphabet}
+use Rattle.za_dfa.specs.Automata.{Automaton, IsTotal, IsTraceClosed, HasDiamonds}
+use Rattle.za_min.specs.Minimal.{IsMinimal}
+use Rattle.za_closure.specs.Breaks.{Break, IsBreak, IsLeastBreak}
+
+-- exactly if it has no break
+abbrev pub ClosedIsUnbroken : Type 0
+ClosedIsUnbroken = (loc : ℕ → List ℕ) (processes : ℕ) (d : Automaton) → IsAlphabet loc d.letters processes → (IsTraceClosed loc d ↔ ((k : Break) → ¬ IsBreak loc d k))
+
+-- exactly if its minimal automaton has every diamond
+abbrev pub ClosedIsDiamonds : Type 0
+ClosedIsDiamonds = (loc : ℕ → List ℕ) (processes : ℕ) (d : Automaton) → IsAlphabet loc d.letters processes → IsTotal d → IsMinimal d → (IsTraceClosed loc d ↔ HasDiamonds loc d)
+
+-- a least break is one
+abbrev pub LeastBreaksAreOne : Type 0
+LeastBreaksAreOne = (loc : ℕ → List ℕ) (d : Automaton) (k l : Break) → IsLeastBreak loc d k → IsLeastBreak loc d l → k ≡ l

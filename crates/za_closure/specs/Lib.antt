@@ -1,0 +1,3 @@
+pub mod Breaks
+pub mod Open
+pub mod Laws
