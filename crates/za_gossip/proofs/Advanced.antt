@@ -15,7 +15,7 @@ use Rattle.za_gossip.specs.Levels.{level_of}
 use Rattle.za_gossip.specs.Updates.{newest, new_label, updated}
 use Rattle.za_gossip.specs.Sources.{IsSource, joined_entry}
 use Rattle.za_gossip.proofs.Numbers.{newest-best, least-is}
-use Rattle.za_gossip.proofs.Rising.{rising-members, has-place}
+use Rattle.za_order.proofs.Rising.{rising-members, has-place}
 use Rattle.za_gossip.proofs.LevelRows.{width, own_block, IsRight, length-row, row-joined}
 use Rattle.za_gossip.proofs.Inputs.{inputs-length, inputs-some, input-at}
 

@@ -15,11 +15,11 @@ use Rattle.za_order.specs.Locals.{Ids, ids, best}
 use Rattle.za_order.proofs.Options.{option-cases}
 use Rattle.za_order.proofs.Sets.{has-append, has-single, has-here}
 use Rattle.za_gossip.specs.Rows.{Rows, rows_of, rows_after, AreRowsAfter}
-use Rattle.za_gossip.proofs.LatestNews.{IsLeastNewest, IsMore, least-single, least-stays, least-moves, best-least}
+use Rattle.za_order.proofs.LatestNews.{IsLeastNewest, IsMore, least-single, least-stays, least-moves, best-least}
 use Rattle.za_gossip.proofs.Numbers.{seen}
-use Rattle.za_gossip.proofs.Places.{any-same}
+use Rattle.za_order.proofs.Ranges.{any-same}
 use Rattle.za_gossip.proofs.Blocks.{entry-of-block}
-use Rattle.za_gossip.proofs.Rising.{rising-members, has-place}
+use Rattle.za_order.proofs.Rising.{rising-members, has-place}
 
 -- of the first y participants of a, that at i is the least that knows the latest event of r that each of them knows
 abbrev pub IsBestOf : DistributedAlphabet → ℕ → List ℕ → ℕ → ℕ → ℕ → Type 0

@@ -1,13 +1,9 @@
-pub mod Lists
-pub mod LatestNews
-pub mod Steps
 pub mod Numbers
 pub mod Updates
 mod Examples
 pub mod Places
 pub mod RowsOf
 pub mod Blocks
-pub mod Rising
 pub mod Inputs
 pub mod SourceLists
 pub mod LevelRows

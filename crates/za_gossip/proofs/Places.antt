@@ -1,14 +1,8 @@
 -- Places in rows, and searches through all processes.
-use Rattle.std.proofs.Common.{◌≡◌, ℕ, zero, suc, ◌+◌, ◌-◌, ◌*◌, ◌<◌, ◌≤◌, ◌∷◌, replicate, Bool, true, false, inl, inr, List, get_or, take, drop, map, refl, sym, ap, ◌∙◌, arith}
-use Rattle.std.specs.List.{range_with_len, list_any}
+use Rattle.std.proofs.Common.{◌≡◌, ℕ, zero, suc, ◌+◌, ◌-◌, ◌*◌, ◌<◌, ◌≤◌, ◌∷◌, replicate, List, get_or, take, drop, map, refl, sym, ap, ◌∙◌, arith}
 use Rattle.std.proofs.Math.Nat.{suc-mul, mul-le-mul_right}
 use Rattle.std.proofs.Math.ListN.{get_or-map}
 use Rattle.std.proofs.lemmas.List.{take-map, drop-map}
-use Rattle.std.proofs.lemmas.Bool.{cases_Bool}
-use Rattle.std.proofs.lemmas.Bool.Decides.{nat_tests}
-use Rattle.za_alpha.specs.Words.{has}
-use Rattle.za_alpha.proofs.Members.{has-range-below}
-use Rattle.za_order.proofs.Sets.{any-here, any-where, in-range}
 use Rattle.za_ids.specs.declared.ids.EventId.{EventId}
 use Rattle.za_ids.specs.Numbers.{event_numbers}
 use Rattle.za_gossip.specs.Rows.{block_at}
@@ -19,33 +13,6 @@ place q r n m hq hr =
     let a : suc q * m ≤ n * m = mul-le-mul_right m hq in
     let b = suc-mul q m in
     omega arith
-
--- what a range from 0 has is below its end
-pub range-below : (n k : ℕ) → has (range_with_len 0 n) k ≡ true → k < n
-range-below n k h = let e = sym (has-range-below n k) ∙ h in grind (arith, nat_tests)
-
--- one of a range passes
-pub any-at : (test : ℕ → Bool) (n k : ℕ) → k < n → test k ≡ true → list_any test (range_with_len 0 n) ≡ true
-any-at test n k l h = any-here test (range_with_len 0 n) k (in-range n k l) h
-
--- none does
-pub any-none : (test : ℕ → Bool) (n : ℕ) → ((k : ℕ) → k < n → test k ≡ false) → list_any test (range_with_len 0 n) ≡ false
-any-none test n h =
-    elim (cases_Bool (list_any test (range_with_len 0 n))) [
-      | inr f ↦ f
-      | inl a ↦ let x = any-where test (range_with_len 0 n) a in let z = h x.0 (range-below n x.0 x.1) in let y = x.2 in cc
-    ]
-
--- tests that agree on a range find the same
-pub any-same : (f g : ℕ → Bool) (n : ℕ) → ((k : ℕ) → k < n → f k ≡ g k) → list_any f (range_with_len 0 n) ≡ list_any g (range_with_len 0 n)
-any-same f g n h =
-    elim (cases_Bool (list_any f (range_with_len 0 n))) [
-      | inl a ↦ let x = any-where f (range_with_len 0 n) a in a ∙ sym (any-at g n x.0 (range-below n x.0 x.1) (sym (h x.0 (range-below n x.0 x.1)) ∙ x.2))
-      | inr a ↦ elim (cases_Bool (list_any g (range_with_len 0 n))) [
-        | inl b ↦ let x = any-where g (range_with_len 0 n) b in let z = any-at f n x.0 (range-below n x.0 x.1) (h x.0 (range-below n x.0 x.1) ∙ x.2) in cc
-        | inr b ↦ a ∙ sym b
-      ]
-    ]
 
 -- the number at a place of a list of numbers of events
 pub number-at : (ids : List EventId) (i : ℕ) → get_or (event_numbers ids) i 0 ≡ (get_or ids i (record { 0 = 0 })).0

@@ -1,9 +1,6 @@
 -- The numbers of the participants after an event, and of the other processes.
-use Rattle.std.proofs.Common.{◌≡◌, ℕ, suc, ◌<◌, true, false, inl, inr, List, [], ◌∷◌, ◌++◌, length, slice_index, Option, Some, None, refl, sym, ap, subst, ◌∙◌, arith, length-append}
+use Rattle.std.proofs.Common.{◌≡◌, ℕ, suc, ◌<◌, true, false, inl, inr, List, [], ◌∷◌, ◌++◌, length, slice_index, Option, Some, None, refl, sym, ap, subst, ◌∙◌, arith}
 use Rattle.std.proofs.Math.Path.{fun_ext}
-use Rattle.std.proofs.Math.Seq.{get_or-append_seam}
-use Rattle.std.proofs.lemmas.List.{get_or_append_left}
-use Rattle.std.proofs.lemmas.List.Elements.{All-push}
 use Rattle.std.proofs.lemmas.Bool.{cases_Bool, cond-true, cond-false}
 use Rattle.za_alpha.specs.Words.{has, IsAlphabet, IsWord}
 use Rattle.za_order.specs.Views.{participants}
@@ -18,8 +15,9 @@ use Rattle.za_order.proofs.Prefixes.{Agree, primary-same, secondary-same, tertia
 use Rattle.za_gossip.specs.Rows.{rows_of, rows_after}
 use Rattle.za_gossip.specs.Updates.{newest, new_label, new_primary, new_secondary, new_tertiary, updated}
 use Rattle.za_gossip.specs.Laws.{ParticipantsUpdate, OthersKeep, NewLabelIsLabel}
-use Rattle.za_gossip.proofs.LatestNews.{IsNewest, newest-some, best-newest}
-use Rattle.za_gossip.proofs.Steps.{primary-newest, secondary-newest, tertiary-newest, secondary-own, tertiary-own, secondary-kept, tertiary-kept}
+use Rattle.za_order.proofs.LatestNews.{IsNewest, newest-some, best-newest}
+use Rattle.za_order.proofs.NextLetter.{length-next, word-next, agrees, seam, at-seam}
+use Rattle.za_order.proofs.NextEntries.{primary-newest, secondary-newest, tertiary-newest, secondary-own, tertiary-own, secondary-kept, tertiary-kept}
 use Rattle.za_gossip.proofs.Numbers.{newest-best, label-new}
 
 -- at the event n of a word
@@ -92,27 +90,17 @@ module _ (loc : ℕ → List ℕ) (letters processes : ℕ) (w : List ℕ) (a : 
   abbrev wa : List ℕ
   wa = w ++ a ∷ []
 
-  length-next : length wa ≡ suc (length w)
-  length-next = omega (arith, length-append w (a ∷ []))
-
-  word-next : IsWord letters wa
-  word-next = All-push (λ b. b < letters) w a word small
-
-  -- it agrees with the word at each of its positions
-  agrees : (j : ℕ) → j < length w → slice_index wa j ≡ slice_index w j
-  agrees j k = get_or_append_left w (a ∷ []) 0 j k
-
   number-before : (o : Option ℕ) → ((e : ℕ) → o ≡ Some e → e < length w) → number loc processes wa o ≡ number loc processes w o
   number-before None h = refl
   number-before (Some e) h =
       let l = h e refl in
-      let x = agrees e l in
+      let x = agrees w a e l in
       let same : Agree loc letters processes (length w) wa w = record {
-        first = word-over loc letters processes wa alphabet word-next;
+        first = word-over loc letters processes wa alphabet (word-next letters w a word small);
         second = word-over loc letters processes w alphabet word;
-        in_first = omega (arith, length-next);
+        in_first = omega (arith, length-next w a);
         in_second = omega arith;
-        same = agrees;
+        same = agrees w a;
       } in
       let y = label-same loc letters processes (length w) wa w e same l in
       cc
@@ -123,7 +111,7 @@ module _ (loc : ℕ → List ℕ) (letters processes : ℕ) (w : List ℕ) (a : 
       let n : ℕ = length w in
       let who = participants loc wa in
       let who' = participants loc w in
-      let agree : (j : ℕ) → j < n → who j ≡ who' j = λ j k. ap loc (agrees j k) in
+      let agree : (j : ℕ) → j < n → who j ≡ who' j = λ j k. ap loc (agrees w a j k) in
       same-ids (ids loc processes wa n p) (ids loc processes w n p)
       (λ q. number-before (primary who n p q) (λ e h. primary-below who n p q e (primary-sound who n p q e h)) ∙ ap (number loc processes w) (primary-same who who' n p q agree))
       (λ q r. number-before (secondary who n p q r) (λ e h. secondary-below who n p q r e (secondary-sound who n p q r e h)) ∙ ap (number loc processes w) (secondary-same who who' n p q r agree))
@@ -132,33 +120,26 @@ module _ (loc : ℕ → List ℕ) (letters processes : ℕ) (w : List ℕ) (a : 
   known-before : ids loc processes wa (length w) ≡ ids loc processes w (length w)
   known-before = fun_ext ids-before
 
-  -- the event is the last
-  seam : slice_index wa (length w) ≡ a
-  seam = get_or-append_seam w a [] 0
-
-  at-seam : (p : ℕ) → has (participants loc wa (length w)) p ≡ has (loc a) p
-  at-seam p = ap (λ v. has (loc v) p) seam
-
   pub label-after : new_label processes (loc a) a (ids loc processes w (length w)) ≡ label loc processes wa (length w)
   label-after =
-      sym (ap (λ v. new_label processes (loc v) v (ids loc processes wa (length w))) seam ∙ ap (new_label processes (loc a) a) known-before)
-      ∙ label-new loc letters processes wa (word-over loc letters processes wa alphabet word-next) (length w) (omega (arith, length-next))
+      sym (ap (λ v. new_label processes (loc v) v (ids loc processes wa (length w))) (seam w a) ∙ ap (new_label processes (loc a) a) known-before)
+      ∙ label-new loc letters processes wa (word-over loc letters processes wa alphabet (word-next letters w a word small)) (length w) (omega (arith, length-next w a))
 
   pub ids-after : (p : ℕ) → has (loc a) p ≡ true → ids loc processes wa (suc (length w)) p ≡ updated processes (loc a) a (ids loc processes w (length w))
   ids-after p h =
-      next-at loc letters processes wa alphabet word-next (length w) (omega (arith, length-next)) p (at-seam p ∙ h)
-      ∙ ap (λ v. updated processes (loc v) v (ids loc processes wa (length w))) seam
+      next-at loc letters processes wa alphabet (word-next letters w a word small) (length w) (omega (arith, length-next w a)) p (at-seam loc w a p ∙ h)
+      ∙ ap (λ v. updated processes (loc v) v (ids loc processes wa (length w))) (seam w a)
       ∙ ap (updated processes (loc a) a) known-before
 
   pub ids-kept : (p : ℕ) → has (loc a) p ≡ false → ids loc processes wa (suc (length w)) p ≡ ids loc processes w (length w) p
-  ids-kept p h = kept-at loc letters processes wa alphabet word-next (length w) (omega (arith, length-next)) p (at-seam p ∙ h) ∙ ids-before p
+  ids-kept p h = kept-at loc letters processes wa alphabet (word-next letters w a word small) (length w) (omega (arith, length-next w a)) p (at-seam loc w a p ∙ h) ∙ ids-before p
 
   -- and so are the rows
   pub rows-after : (p : ℕ) → has (loc a) p ≡ true → rows_of processes (updated processes (loc a) a (ids loc processes w (length w))) ≡ rows_after loc processes wa p
-  rows-after p h = ap (rows_of processes) (sym (ids-after p h)) ∙ ap (λ m. rows_of processes (ids loc processes wa m p)) (sym length-next)
+  rows-after p h = ap (rows_of processes) (sym (ids-after p h)) ∙ ap (λ m. rows_of processes (ids loc processes wa m p)) (sym (length-next w a))
 
   pub rows-kept : (p : ℕ) → has (loc a) p ≡ false → rows_after loc processes w p ≡ rows_after loc processes wa p
-  rows-kept p h = ap (rows_of processes) (sym (ids-kept p h)) ∙ ap (λ m. rows_of processes (ids loc processes wa m p)) (sym length-next)
+  rows-kept p h = ap (rows_of processes) (sym (ids-kept p h)) ∙ ap (λ m. rows_of processes (ids loc processes wa m p)) (sym (length-next w a))
 
 -- in the words of the laws
 pub participants_update : ParticipantsUpdate

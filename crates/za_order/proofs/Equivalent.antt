@@ -19,7 +19,7 @@ use Rattle.za_order.proofs.Matches.{IsPair, from-match, to-match, flip, pair-has
 
 module _ (loc : ℕ → List ℕ) where
   -- equivalence goes both ways
-  flip-equivalent : (u v : List ℕ) → AreEquivalent loc u v → AreEquivalent loc v u
+  pub flip-equivalent : (u v : List ℕ) → AreEquivalent loc u v → AreEquivalent loc v u
   flip-equivalent u v e p = sym (e p)
 
   -- the events of p below n in u match those below n' in v
@@ -193,7 +193,7 @@ views_agree loc u v ps i j e m =
     (pair-view loc v u (length v) (length u) ps j i (flip-equivalent loc u v e) (omega arith) (λ x y p a b c d. a.in_v) (flip u v i j k))
 
 -- a primary entry has a match that is one
-same-primary : (loc : ℕ → List ℕ) (u v : List ℕ) (p q e : ℕ) → AreEquivalent loc u v → primary (participants loc u) (length u) p q ≡ Some e →
+pub same-primary : (loc : ℕ → List ℕ) (u v : List ℕ) (p q e : ℕ) → AreEquivalent loc u v → primary (participants loc u) (length u) p q ≡ Some e →
     (e' : ℕ) × IsPair u v e e' × (primary (participants loc v) (length v) p q ≡ Some e')
 same-primary loc u v p q e eq h =
     let f = pair-latest loc u v (length u) (length v) p q e eq (whole loc u v p) (primary-sound (participants loc u) (length u) p q e h) in

@@ -18,3 +18,10 @@ pub mod Equivalent
 mod Examples
 pub mod Marking
 pub mod Prefixes
+pub mod Lists
+pub mod LatestNews
+pub mod NextEntries
+pub mod Rising
+pub mod Processes
+pub mod NextLetter
+pub mod Ranges

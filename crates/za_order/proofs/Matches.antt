@@ -88,7 +88,7 @@ module _ (loc : ℕ → List ℕ) where
   pair-has u v i j p m h = subst (λ y. has (loc y) p ≡ true) m.letter h
 
   -- and one rank among the events of each
-  pair-rank : (u v : List ℕ) (i j p : ℕ) → AreEquivalent loc u v → IsPair u v i j → has (participants loc u i) p ≡ true →
+  pub pair-rank : (u v : List ℕ) (i j p : ℕ) → AreEquivalent loc u v → IsPair u v i j → has (participants loc u i) p ≡ true →
       rank (λ a. has (loc a) p) u i ≡ rank (λ a. has (loc a) p) v j
   pair-rank u v i j p e m h =
       same-rank (λ a. has (loc a) p) (λ a. a == slice_index u i) (λ x. kind p (slice_index u i) x h) u v i j (e p) m.in_u m.in_v

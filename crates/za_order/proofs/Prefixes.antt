@@ -21,7 +21,7 @@ then-same f g (Some e) h = h e refl
 
 module _ (who who' : ℕ → List ℕ) where
   -- views after n events look at these alone
-  view-same : (n : ℕ) (ps : List ℕ) (i : ℕ) → ((j : ℕ) → j < n → who j ≡ who' j) → in_view who n ps i ≡ in_view who' n ps i
+  pub view-same : (n : ℕ) (ps : List ℕ) (i : ℕ) → ((j : ℕ) → j < n → who j ≡ who' j) → in_view who n ps i ≡ in_view who' n ps i
   view-same zero ps i h = refl
   view-same (suc n) ps i h =
       let e = h n (omega arith) in
@@ -34,14 +34,15 @@ module _ (who who' : ℕ → List ℕ) where
       greatest-same (λ i. in_view who n (p ∷ []) i && has (who i) q) (λ i. in_view who' n (p ∷ []) i && has (who' i) q) n
       (λ i l. let v = view-same n (p ∷ []) i h in let e = h i l in cc)
 
-  -- and what an event among them knows
+  -- and pasts of events among them
+  pub past-same : (n e i : ℕ) → e < n → ((j : ℕ) → j < n → who j ≡ who' j) → in_past who e i ≡ in_past who' e i
+  past-same n e i l h = let v = view-same (suc e) (who e) i (λ j k. h j (omega arith)) in let s = h e l in cc
+
+  -- and what such an event knows
   pub last-same : (n e r : ℕ) → e < n → ((j : ℕ) → j < n → who j ≡ who' j) → last_in_past who e r ≡ last_in_past who' e r
   last-same n e r l h =
       greatest-same (λ i. in_past who e i && has (who i) r) (λ i. in_past who' e i && has (who' i) r) (suc e)
-      (λ i k.
-      let v = view-same (suc e) (who e) i (λ j m. h j (omega arith)) in
-      let s = h e l in
-      let t = h i (omega arith) in cc)
+      (λ i k. let v = past-same n e i l h in let t = h i (omega arith) in cc)
 
   -- secondary entries
   pub secondary-same : (n p q r : ℕ) → ((j : ℕ) → j < n → who j ≡ who' j) → secondary who n p q r ≡ secondary who' n p q r

@@ -18,6 +18,13 @@ rank-next t w i l h =
     let e = ap (λ x. length x) (cond-true (t (slice_index w i)) (slice_index w i ∷ []) [] h) in
     omega arith
 
+-- any other adds none
+pub rank-skip : (t : ℕ → Bool) (w : List ℕ) (i : ℕ) → i < length w → t (slice_index w i) ≡ false → rank t w (suc i) ≡ rank t w i
+rank-skip t w i l h =
+    let s = rank-step t w i l in
+    let e = ap (λ x. length x) (cond-false (t (slice_index w i)) (slice_index w i ∷ []) [] h) in
+    omega arith
+
 -- ranks do not fall
 pub rank-mono : (t : ℕ → Bool) (w : List ℕ) (i j : ℕ) → i ≤ j → j ≤ length w → rank t w i ≤ rank t w j
 rank-mono t w i zero l m = let e : i ≡ 0 = omega arith in rw e (omega arith)

@@ -10,7 +10,7 @@ use Rattle.za_order.proofs.Chains.{chain-same}
 
 module _ (loc : ℕ → List ℕ) (w : List ℕ) where
   -- the projection of a subword, one position further
-  projection-takes : (p : ℕ) (test : ℕ → Bool) (n : ℕ) → test n ≡ true → has (participants loc w n) p ≡ true →
+  pub projection-takes : (p : ℕ) (test : ℕ → Bool) (n : ℕ) → test n ≡ true → has (participants loc w n) p ≡ true →
       projection loc p (subword w test (suc n)) ≡ projection loc p (subword w test n) ++ slice_index w n ∷ []
   projection-takes p test n t h =
       rw (cond-true (test n) (subword w test n ++ slice_index w n ∷ []) (subword w test n) t)
@@ -18,11 +18,11 @@ module _ (loc : ℕ → List ℕ) (w : List ℕ) where
       ∙ ap (λ x. projection loc p (subword w test n) ++ x) (cond-true (has (loc (slice_index w n)) p) (slice_index w n ∷ []) [] h))
 
   -- a position that does not pass adds nothing
-  projection-skips : (p : ℕ) (test : ℕ → Bool) (n : ℕ) → test n ≡ false → projection loc p (subword w test (suc n)) ≡ projection loc p (subword w test n)
+  pub projection-skips : (p : ℕ) (test : ℕ → Bool) (n : ℕ) → test n ≡ false → projection loc p (subword w test (suc n)) ≡ projection loc p (subword w test n)
   projection-skips p test n t = ap (λ x. projection loc p x) (cond-false (test n) (subword w test n ++ slice_index w n ∷ []) (subword w test n) t)
 
   -- nor does one of another process
-  projection-others : (p : ℕ) (test : ℕ → Bool) (n : ℕ) → has (participants loc w n) p ≡ false → projection loc p (subword w test (suc n)) ≡ projection loc p (subword w test n)
+  pub projection-others : (p : ℕ) (test : ℕ → Bool) (n : ℕ) → has (participants loc w n) p ≡ false → projection loc p (subword w test (suc n)) ≡ projection loc p (subword w test n)
   projection-others p test n h =
       elim (cases_Bool (test n)) [
         | inl t ↦

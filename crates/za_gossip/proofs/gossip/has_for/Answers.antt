@@ -1,6 +1,7 @@
 use Rattle.std.proofs.Common.{ℕ, ◌+◌, ◌*◌, ◌==◌, slice_index, sym, ap, ◌∙◌, arith, below_more}
 use Rattle.za_ids.specs.Numbers.{event_numbers}
-use Rattle.za_gossip.proofs.Places.{number-at, any-at, any-none}
+use Rattle.za_order.proofs.Ranges.{any-at, any-none}
+use Rattle.za_gossip.proofs.Places.{number-at}
 use Rattle.za_gossip.proofs.gossip.has_for.Goals as goal
 
 pub returns-then-eq : goal.returns-then-eq

@@ -4,7 +4,7 @@ use Rattle.za_alpha.specs.Procs.{members_below}
 use Rattle.za_alpha.proofs.Members.{members_below-zero}
 use Rattle.za_gossip.specs.Rows.{Rows, rows_after}
 use Rattle.za_gossip.proofs.RowsOf.{row-of-all, length-all, length-primary}
-use Rattle.za_gossip.proofs.Rising.{map-members-in, map-members-out, members-fit}
+use Rattle.za_order.proofs.Rising.{map-members-in, map-members-out, members-fit}
 use Rattle.za_gossip.proofs.tests.gathered.Goals as goal
 use Rattle.za_gossip.proofs.tests.gathered.Goals.{then-has+in_ok-copied+in_ok-push, else-has}
 

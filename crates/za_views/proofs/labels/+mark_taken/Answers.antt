@@ -2,7 +2,8 @@ use Rattle.std.proofs.Common.{ℕ, ◌-◌, ◌||◌, Bool, false, slice_index_o
 use Rattle.std.specs.List.{range_with_len, list_any}
 use Rattle.za_views.specs.Events.{known}
 use Rattle.za_views.specs.Taken.{is_taken}
-use Rattle.za_views.proofs.Ranges.{any-more, or-assoc}
+use Rattle.za_order.proofs.Ranges.{any-more}
+use Rattle.za_views.proofs.Ranges.{or-assoc}
 use Rattle.za_views.proofs.labels.+mark_taken.Goals as goal
 
 pub loop-q-preserved : goal.loop-q-preserved

@@ -2,12 +2,12 @@
 use Rattle.std.proofs.Common.{◌≡◌, ℕ, zero, suc, ◌+◌, ◌<◌, ◌≤◌, Bool, true, false, ◌==◌, ◌++◌, cond, inl, inr, List, [], ◌∷◌, length, get_or, take, filter, map, refl, sym, ap, subst, ◌∙◌, arith, add-one}
 use Rattle.std.specs.List.{range_with_len}
 use Rattle.std.specs.Int.{bit_at}
-use Rattle.std.proofs.lemmas.Bool.{cases_Bool, cases_eq, cond-true, cond-false}
+use Rattle.std.proofs.lemmas.Bool.{cases_Bool, cases_eq, cond-true, cond-false, cond_both}
 use Rattle.std.proofs.lemmas.List.{append-nil, map-append}
 use Rattle.za_alpha.specs.declared.procs.Procs.{Procs}
 use Rattle.za_alpha.specs.Words.{has}
 use Rattle.za_alpha.specs.Procs.{members, members_below}
-use Rattle.za_alpha.proofs.Members.{members_below-more}
+use Rattle.za_alpha.proofs.Members.{members_below-zero, members_below-more, length-members_below-more}
 use Rattle.za_order.proofs.Sets.{has-cases, has-here, has-there}
 
 -- each element is above those before it, and none is below the first
@@ -84,6 +84,19 @@ members-fit s n l h = sym (fit 16 l (omega arith))
               ap (λ xs. members_below s k ++ xs) (cond-false (has (members s) k) (k ∷ []) [] out) ∙ append-nil (members_below s k) in
               ap (members_below s) (sym (add-one k)) ∙ members_below-more s k (omega arith) ∙ rest ∙ fit k (omega arith) (omega arith)
         ]
+
+-- there are no more of them below n than n
+pub length-members_below-le : (s : Procs) (n : ℕ) → n ≤ 16 → length (members_below s n) ≤ n
+length-members_below-le s zero l = let e = ap length (members_below-zero s) in omega arith
+length-members_below-le s (suc n) l =
+    let rest = length-members_below-le s n (omega arith) in
+    let more = ap (λ k. length (members_below s k)) (sym (add-one n)) ∙ length-members_below-more s n (omega arith) in
+    let one : cond (has (members s) n) 1 0 ≤ 1 = cond_both (has (members s) n) 1 0 (λ k. k ≤ 1) (λ t. omega arith) (λ f. omega arith) in
+    omega arith
+
+-- and so no more in all, where all are below n
+pub length-members-le : (s : Procs) (n : ℕ) → n ≤ 16 → ((p : ℕ) → has (members s) p ≡ true → p < n) → length (members s) ≤ n
+length-members-le s n l h = let e = ap length (members-fit s n l h) in let k = length-members_below-le s n l in omega arith
 
 -- what a function makes of the members below n + 1, from those below n
 pub map-members-in : {X : Type 0} (f : ℕ → X) (s : Procs) (n : ℕ) → n < 16 → has (members s) n ≡ true → map f (members_below s (n + 1)) ≡ map f (members_below s n) ++ f n ∷ []

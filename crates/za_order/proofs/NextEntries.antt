@@ -9,7 +9,7 @@ use Rattle.za_order.proofs.Views.{view-sound, view-complete, past-sound, past-co
 use Rattle.za_order.proofs.Entries.{primary-sound, primary-some}
 use Rattle.za_order.proofs.Steps.{view-came, primary_of_participant, primary_joined, primary_kept}
 use Rattle.za_order.proofs.Prefixes.{greatest-same}
-use Rattle.za_gossip.proofs.LatestNews.{IsNewest}
+use Rattle.za_order.proofs.LatestNews.{IsNewest}
 
 module _ (who : ℕ → List ℕ) (n p : ℕ) where
   -- for a process q that takes no part, what the newest had
@@ -34,7 +34,7 @@ module _ (who : ℕ → List ℕ) (n p : ℕ) where
   tertiary-newest q r s b a other k = ap (λ o. option_and_then (λ e. last_in_past who e s) o) (secondary-newest q r b a other k)
 
   -- the past of the event is what its participants know
-  past-own : (i : ℕ) → has (who n) p ≡ true → in_past who n i ≡ in_view who (suc n) (p ∷ []) i
+  pub past-own : (i : ℕ) → has (who n) p ≡ true → in_past who n i ≡ in_view who (suc n) (p ∷ []) i
   past-own i a =
       same-test (in_past who n i) (in_view who (suc n) (p ∷ []) i)
       (λ h. view-complete who (suc n) (p ∷ []) i n p (omega arith) a (has-own p) (past-sound who n i h))

@@ -12,7 +12,7 @@ use Rattle.za_order.proofs.Chains.{chain-same}
 use Rattle.za_order.proofs.Views.{view-down}
 use Rattle.za_order.proofs.Entries.{primary-sound, primary-some}
 use Rattle.za_alpha.proofs.Least.{least-true, least-le}
-use Rattle.za_gossip.proofs.Lists.{all-from, all-at}
+use Rattle.za_order.proofs.Lists.{all-from, all-at}
 
 -- b is one of xs, and knows the latest event of q that each of xs knows
 pub record IsNewest (who : ℕ → List ℕ) (n : ℕ) (xs : List ℕ) (q b : ℕ) : Type 0 where
