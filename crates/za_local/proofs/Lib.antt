@@ -1,0 +1,11 @@
+pub mod Paired
+pub mod Shapes
+pub mod Blocks
+pub mod LocalLaws
+pub mod SharedNumbers
+pub mod Given
+pub mod Benches
+pub mod Sets
+pub mod Inputs
+pub mod FromBench
+pub mod ViewStates

@@ -1,0 +1,5 @@
+pub mod Locals
+pub mod Benches
+pub mod Inside
+pub mod Laws
+pub mod Shared
