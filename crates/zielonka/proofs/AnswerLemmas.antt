@@ -1,9 +1,9 @@
 -- The answer that the weave gives is the answer.
-use Rattle.std.proofs.Common.{◌≡◌, ℕ, ◌<◌, Bool, true, false, ◌↔◌, List, length, sym, ◌∙◌, ap, subst, refl, cond}
+use Rattle.std.proofs.Common.{◌≡◌, ℕ, Bool, true, false, ◌↔◌, List, length, sym, ◌∙◌, ap, subst, refl}
 use Rattle.std.specs.Prelude.{IsTrue, if◌then◌else◌}
 use Rattle.za_alpha.specs.Words.{IsWord}
 use Rattle.za_alpha.specs.Alphabet.{loc_of}
-use Rattle.za_dfa.specs.Automata.{Automaton, IsTotal, HasDiamonds, IsTraceClosed, is_accepted}
+use Rattle.za_dfa.specs.Automata.{HasDiamonds, IsTraceClosed, is_accepted}
 use Rattle.za_dfa.specs.Tables.{CompleteDfa, IsComplete, automaton_of}
 use Rattle.za_dfa.proofs.Diamonds.{diamonds_close_the_language}
 use Rattle.za_dfa.proofs.TableLemmas.{total_of_complete}
@@ -14,7 +14,8 @@ use Rattle.za_script.specs.Woven.{WovenWord}
 use Rattle.za_script.specs.Answer.{IsAnswer}
 use Rattle.za_script.proofs.Confluence.{weave_is_maximal}
 use Rattle.za_script.proofs.Answers.{accept_is_of_the_weave, reject_is_of_the_weave, stuck_is_of_the_weave}
-use Rattle.zielonka.specs.Answers.{answer_by, weave_of}
+use Rattle.za_report.specs.Texts.{weave_of}
+use Rattle.zielonka.specs.Output.{answer_by}
 
 -- the weave is a word over the alphabet
 pub weave-word : (d : CompleteDfa) (scripts : List (List ℕ)) → IsComplete d → IsWord (length d.alphabet.letters) (weave_of d.alphabet scripts)

@@ -1,5 +1,5 @@
 -- The cause of each status, by cases of what a run did.
-use Rattle.std.proofs.Common.{◌≡◌, ◌≢◌, ℕ, ◌+◌, ◌<◌, ◌≤◌, ◌||◌, true, false, inl, inr, ◌⊎◌, List, [], ◌∷◌, ◌++◌, length, length-append, take, Option, Some, None, sym, ap, subst, ◌∙◌, refl, arith}
+use Rattle.std.proofs.Common.{◌≡◌, ◌≢◌, ℕ, ◌+◌, ◌<◌, ◌≤◌, ◌||◌, Bool, true, false, inl, inr, ◌⊎◌, List, [], ◌∷◌, ◌++◌, length, length-append, take, Option, Some, None, sym, ap, subst, ◌∙◌, refl, arith}
 use Rattle.std.specs.Prelude.{◌==◌}
 use Rattle.std.specs.List.{list_any}
 use Rattle.std.specs.Io.KnownBytes.{Consumes, Appends, IsAtEnd}
@@ -8,27 +8,69 @@ use Rattle.std.proofs.lemmas.List.{append-nil}
 use Rattle.za_base.specs.Fault.{Rises}
 use Rattle.za_script.specs.declared.answer.Answer.{Answer}
 use Rattle.za_script.specs.declared.answer.Answer.TheVariants.{Accept, Reject, Stuck}
+use Rattle.zielonka.specs.declared.request.Command.{Command}
+use Rattle.zielonka.specs.declared.request.Command.TheVariants.{Solo}
+use Rattle.zielonka.specs.declared.request.Request.{Request}
+use Rattle.zielonka.specs.declared.request.Request.TheVariants.{Usage as AsksUsage, NotBuilt as AsksMore, Answer as Asks}
 use Rattle.zielonka.specs.declared.run.TheConstants.{MOST_BYTES}
-use Rattle.zielonka.specs.Answers.{status_of}
-use Rattle.zielonka.specs.Output.{IsOutput, NotBuilt, Answered, usage_text, too_long_text}
-use Rattle.zielonka.specs.Run.{Ends, AreSolo, ReadNothing, ReadAll, ReadTooMany, WroteNothing, IsDue, Usage, TooLong, Said, HasRun, Wrote, WriteFault, ReadFault, NoMemory}
-use Rattle.zielonka.specs.Laws.{UsageIsOfTheWords, WordsDecideTheUsage, ReadFaultIsOfTheSource, WriteFaultIsOfTheSink, TooLongIsOfTheBytes, NoMemoryWritesNothing, is_of_bytes, AnswerIsOfAllBytes, StatusesAreKnown, RunCompletes}
+use Rattle.zielonka.specs.Output.{IsOutput, Refused, Read, IsDueFor, Open, Answered, IsAnswered, Ran, Checked, Shown, usage_text, too_long_text, not_built_text, status_of}
+use Rattle.zielonka.specs.Run.{Ends, AreNoForm, AreNotBuilt, AskFor, ReadNothing, ReadAll, ReadNotTooMany, ReadTooMany, WroteNothing, IsDue, Usage, NotBuilt, TooLong, Said, HasRun, Wrote, WriteFault, ReadFault, NoMemory}
+use Rattle.zielonka.specs.Laws.{UsageIsOfTheWords, WordsDecideTheUsage, NotBuiltIsOfTheWords, WordsDecideNotBuilt, AskForSome, ReadFaultIsOfTheSource, WriteFaultIsOfTheSink, TooLongIsOfTheBytes, TooManyDecide, TooManyComplete, NoMemoryWritesNothing, is_of_bytes, AnswerIsOfAllBytes, StatusesAreKnown, RunCompletes}
+use Rattle.za_lang.specs.Jobs.{JobData}
 
 -- an answer's status is one of those of bytes
-answer-status : (answer : Answer) (status : ℕ) → status ≡ status_of answer → is_of_bytes status ≡ true
-answer-status Accept status e = rw e refl
-answer-status Reject status e = rw e refl
-answer-status Stuck status e = rw e refl
+answer-status : (answer : Answer) → is_of_bytes (status_of answer) ≡ true
+answer-status Accept = refl
+answer-status Reject = refl
+answer-status Stuck = refl
 
--- the status that is due for bytes is one of those
-output-status : {bytes text : List ℕ} {status : ℕ} → IsOutput bytes status text → is_of_bytes status ≡ true
-output-status (NotBuilt job whole same broken) = refl
-output-status (Answered job status text whole same diamonds answered) = answer-status answered.answer status answered.status_is
-output-status refused = refl
+answered-status : {job : JobData} {command : Command} {status : ℕ} {text : List ℕ} → IsAnswered job command status text → is_of_bytes status ≡ true
+answered-status (Ran answer right) = answer-status answer
+answered-status (Checked d minimal) = refl
+answered-status (Shown d minimal) = refl
+
+-- the status that is due for a job or for bytes is one of those
+due-status : {job : JobData} {command : Command} {status : ℕ} {text : List ℕ} → IsDueFor command job status text → is_of_bytes status ≡ true
+due-status (Open k least) = refl
+due-status (Answered status text closed answered) = answered-status answered
+
+output-status : {command : Command} {bytes text : List ℕ} {status : ℕ} → IsOutput command bytes status text → is_of_bytes status ≡ true
+output-status (Refused fault wrong) = refl
+output-status (Read status text right job due) = due-status due
 
 -- a status of bytes is no other one
 other : (status number : ℕ) → is_of_bytes status ≡ true → is_of_bytes number ≡ false → status ≡ number → ⊥
 other status number h k e = let both : true ≡ false = sym h ∙ ap is_of_bytes e ∙ k in absurd (cc)
+
+-- which of three the words ask for
+abbrev is_usage : Request → Bool
+is_usage AsksUsage = true
+is_usage AsksMore = false
+is_usage (Asks command) = false
+
+abbrev is_more : Request → Bool
+is_more AsksUsage = false
+is_more AsksMore = true
+is_more (Asks command) = false
+
+usage-not-more : {a : Request} → a ≡ AsksUsage → a ≡ AsksMore → ⊥
+usage-not-more u m = let both : true ≡ false = ap is_usage (sym u ∙ m) in absurd (cc)
+
+usage-not-read : {a : Request} (command : Command) → a ≡ AsksUsage → a ≡ Asks command → ⊥
+usage-not-read command u r = let both : true ≡ false = ap is_usage (sym u ∙ r) in absurd (cc)
+
+more-not-read : {a : Request} (command : Command) → a ≡ AsksMore → a ≡ Asks command → ⊥
+more-not-read command m r = let both : true ≡ false = ap is_more (sym m ∙ r) in absurd (cc)
+
+-- the command that is asked for is one
+command-in : Request → Command
+command-in AsksUsage = Solo
+command-in AsksMore = Solo
+command-in (Asks command) = command
+
+one-command : {a : Request} (c k : Command) → a ≡ Asks c → a ≡ Asks k → c ≡ k
+unfolding command-in
+one-command c k e f = ap command-in (sym e ∙ f)
 
 -- no more bytes are taken than there are
 taken_within : (bytes taken : List ℕ) (now : Option (List ℕ)) → Consumes (Some bytes) now taken → length taken ≤ length bytes
@@ -40,125 +82,218 @@ all_taken : (bytes taken : List ℕ) (now : Option (List ℕ)) → Consumes (Som
 all_taken bytes taken None h e = absurd h
 all_taken bytes taken (Some left) h e = sym (h ∙ ap (λ rest. taken ++ rest) e ∙ append-nil taken)
 
+-- what two takes took has one length, where the source tells its bytes before and after
+one_length : (bytes one other : List ℕ) (now : Option (List ℕ)) → Consumes (Some bytes) now one → Consumes (Some bytes) now other → length one ≡ length other
+one_length bytes one other None g h = absurd g
+one_length bytes one other (Some left) g h =
+    let size : length (one ++ left) ≡ length (other ++ left) = ap length (sym g ∙ h) in omega (arith, length-append one left, length-append other left)
+
 module _ (words : List (List ℕ)) (old new : Ends) where
   -- status 2, by what is due and by the run
-  usage_due : {status : ℕ} {text : List ℕ} → IsDue words old new status text → status ≡ 2 → (¬ AreSolo words) × ReadNothing old new × (text ≡ usage_text)
-  usage_due (Usage apart nothing) e = (apart, nothing, refl)
-  usage_due (TooLong solo many) e = absurd (omega arith)
-  usage_due (Said bytes status text solo all output) e = absurd (other status 2 (output-status output) refl e)
+  usage_due : {status : ℕ} {text : List ℕ} → IsDue words old new status text → status ≡ 2 → AreNoForm words × ReadNothing old new × (text ≡ usage_text)
+  usage_due (Usage none nothing) e = (none, nothing, refl)
+  usage_due (NotBuilt more nothing) e = absurd (omega arith)
+  usage_due (TooLong command asks many) e = absurd (omega arith)
+  usage_due (Said command bytes status text asks all output) e = absurd (other status 2 (output-status output) refl e)
 
-  usage_run : {status : ℕ} → HasRun words old new status → status ≡ 2 → (¬ AreSolo words) × ReadNothing old new × Appends old.written new.written usage_text
+  usage_run : {status : ℕ} → HasRun words old new status → status ≡ 2 → AreNoForm words × ReadNothing old new × Appends old.written new.written usage_text
   usage_run (Wrote status text due whole) e = let cause = usage_due due e in (cause.0, cause.1, subst (Appends old.written new.written) cause.2 whole)
   usage_run (WriteFault status k text due short part rose) e = absurd (omega arith)
-  usage_run (ReadFault solo rose nothing) e = absurd (omega arith)
+  usage_run (ReadFault command asks few rose nothing) e = absurd (omega arith)
   usage_run (NoMemory nothing) e = absurd (omega arith)
 
-  -- words that are not solo
-  words_due : {status : ℕ} {text : List ℕ} → IsDue words old new status text → ¬ AreSolo words → status ≡ 2
-  words_due (Usage apart nothing) not_solo = refl
-  words_due (TooLong solo many) not_solo = absurd (not_solo solo)
-  words_due (Said bytes status text solo all output) not_solo = absurd (not_solo solo)
+  -- words in no form
+  words_due : {status : ℕ} {text : List ℕ} → IsDue words old new status text → AreNoForm words → status ≡ 2
+  words_due (Usage none nothing) no_form = refl
+  words_due (NotBuilt more nothing) no_form = absurd (usage-not-more no_form more)
+  words_due (TooLong command asks many) no_form = absurd (usage-not-read command no_form asks)
+  words_due (Said command bytes status text asks all output) no_form = absurd (usage-not-read command no_form asks)
 
-  words_run : {status : ℕ} → HasRun words old new status → ¬ AreSolo words → (status ≡ 2) ⊎ ((status ≡ 7) ⊎ (status ≡ 8))
-  words_run (Wrote status text due whole) not_solo = inl (words_due due not_solo)
-  words_run (WriteFault status k text due short part rose) not_solo = inr (inl refl)
-  words_run (ReadFault solo rose nothing) not_solo = absurd (not_solo solo)
-  words_run (NoMemory nothing) not_solo = inr (inr refl)
+  words_run : {status : ℕ} → HasRun words old new status → AreNoForm words → (status ≡ 2) ⊎ ((status ≡ 7) ⊎ (status ≡ 8))
+  words_run (Wrote status text due whole) no_form = inl (words_due due no_form)
+  words_run (WriteFault status k text due short part rose) no_form = inr (inl refl)
+  words_run (ReadFault command asks few rose nothing) no_form = absurd (usage-not-read command no_form asks)
+  words_run (NoMemory nothing) no_form = inr (inr refl)
 
-  -- what is due has no status of its own but 2, 9 and those of bytes
-  due_status : {status : ℕ} {text : List ℕ} → IsDue words old new status text → ((status ≡ 2) ⊎ (status ≡ 9)) ⊎ (is_of_bytes status ≡ true)
-  due_status (Usage apart nothing) = inl (inl refl)
-  due_status (TooLong solo many) = inl (inr refl)
-  due_status (Said bytes status text solo all output) = inr (output-status output)
+  -- status 10
+  not_built_due : {status : ℕ} {text : List ℕ} → IsDue words old new status text → status ≡ 10 → AreNotBuilt words × ReadNothing old new × (text ≡ not_built_text)
+  not_built_due (Usage none nothing) e = absurd (omega arith)
+  not_built_due (NotBuilt more nothing) e = (more, nothing, refl)
+  not_built_due (TooLong command asks many) e = absurd (omega arith)
+  not_built_due (Said command bytes status text asks all output) e = absurd (other status 10 (output-status output) refl e)
+
+  not_built_run : {status : ℕ} → HasRun words old new status → status ≡ 10 → AreNotBuilt words × ReadNothing old new × Appends old.written new.written not_built_text
+  not_built_run (Wrote status text due whole) e = let cause = not_built_due due e in (cause.0, cause.1, subst (Appends old.written new.written) cause.2 whole)
+  not_built_run (WriteFault status k text due short part rose) e = absurd (omega arith)
+  not_built_run (ReadFault command asks few rose nothing) e = absurd (omega arith)
+  not_built_run (NoMemory nothing) e = absurd (omega arith)
+
+  -- words in a form that isn't built
+  more_due : {status : ℕ} {text : List ℕ} → IsDue words old new status text → AreNotBuilt words → status ≡ 10
+  more_due (Usage none nothing) more = absurd (usage-not-more none more)
+  more_due (NotBuilt also nothing) more = refl
+  more_due (TooLong command asks many) more = absurd (more-not-read command more asks)
+  more_due (Said command bytes status text asks all output) more = absurd (more-not-read command more asks)
+
+  more_run : {status : ℕ} → HasRun words old new status → AreNotBuilt words → (status ≡ 10) ⊎ ((status ≡ 7) ⊎ (status ≡ 8))
+  more_run (Wrote status text due whole) more = inl (more_due due more)
+  more_run (WriteFault status k text due short part rose) more = inr (inl refl)
+  more_run (ReadFault command asks few rose nothing) more = absurd (more-not-read command more asks)
+  more_run (NoMemory nothing) more = inr (inr refl)
+
+  -- what is due has no status of its own but 2, 9, 10 and those of bytes
+  due_status : {status : ℕ} {text : List ℕ} → IsDue words old new status text → ((status ≡ 2) ⊎ ((status ≡ 9) ⊎ (status ≡ 10))) ⊎ (is_of_bytes status ≡ true)
+  due_status (Usage none nothing) = inl (inl refl)
+  due_status (NotBuilt more nothing) = inl (inr (inr refl))
+  due_status (TooLong command asks many) = inl (inr (inl refl))
+  due_status (Said command bytes status text asks all output) = inr (output-status output)
 
   -- so no other status is due
-  never_due : (status number : ℕ) → ((status ≡ 2) ⊎ (status ≡ 9)) ⊎ (is_of_bytes status ≡ true) → number ≢ 2 → number ≢ 9 → is_of_bytes number ≡ false → status ≡ number → ⊥
-  never_due status number (inl (inl two)) not_two not_nine k e = absurd (omega arith)
-  never_due status number (inl (inr nine)) not_two not_nine k e = absurd (omega arith)
-  never_due status number (inr h) not_two not_nine k e = other status number h k e
+  never_due : (status number : ℕ) → ((status ≡ 2) ⊎ ((status ≡ 9) ⊎ (status ≡ 10))) ⊎ (is_of_bytes status ≡ true) → number ≢ 2 → number ≢ 9 → number ≢ 10 → is_of_bytes number ≡ false → status ≡ number → ⊥
+  never_due status number (inl (inl two)) not_two not_nine not_ten k e = absurd (omega arith)
+  never_due status number (inl (inr (inl nine))) not_two not_nine not_ten k e = absurd (omega arith)
+  never_due status number (inl (inr (inr ten))) not_two not_nine not_ten k e = absurd (omega arith)
+  never_due status number (inr h) not_two not_nine not_ten k e = other status number h k e
 
   -- status 6
-  read_fault_run : {status : ℕ} → HasRun words old new status → status ≡ 6 → AreSolo words × Rises old.read_faults new.read_faults × WroteNothing old new
-  read_fault_run (Wrote status text due whole) e = absurd (never_due status 6 (due_status due) (omega arith) (omega arith) refl e)
+  read_fault_run : {status : ℕ} → HasRun words old new status → status ≡ 6 → AskForSome words × ReadNotTooMany old new × Rises old.read_faults new.read_faults × WroteNothing old new
+  read_fault_run (Wrote status text due whole) e = absurd (never_due status 6 (due_status due) (omega arith) (omega arith) (omega arith) refl e)
   read_fault_run (WriteFault status k text due short part rose) e = absurd (omega arith)
-  read_fault_run (ReadFault solo rose nothing) e = (solo, rose, nothing)
+  read_fault_run (ReadFault command asks few rose nothing) e = ((command, asks), few, rose, nothing)
   read_fault_run (NoMemory nothing) e = absurd (omega arith)
 
   -- status 7
   write_fault_run : {status : ℕ} → HasRun words old new status → status ≡ 7 →
       (due k : ℕ) × (text : List ℕ) × IsDue words old new due text × (k < length text) × Appends old.written new.written (take k text) × Rises old.write_faults new.write_faults
-  write_fault_run (Wrote status text due whole) e = absurd (never_due status 7 (due_status due) (omega arith) (omega arith) refl e)
+  write_fault_run (Wrote status text due whole) e = absurd (never_due status 7 (due_status due) (omega arith) (omega arith) (omega arith) refl e)
   write_fault_run (WriteFault status k text due short part rose) e = (status, k, text, due, short, part, rose)
-  write_fault_run (ReadFault solo rose nothing) e = absurd (omega arith)
+  write_fault_run (ReadFault command asks few rose nothing) e = absurd (omega arith)
   write_fault_run (NoMemory nothing) e = absurd (omega arith)
 
   -- status 8
   no_memory_run : {status : ℕ} → HasRun words old new status → status ≡ 8 → WroteNothing old new
-  no_memory_run (Wrote status text due whole) e = absurd (never_due status 8 (due_status due) (omega arith) (omega arith) refl e)
+  no_memory_run (Wrote status text due whole) e = absurd (never_due status 8 (due_status due) (omega arith) (omega arith) (omega arith) refl e)
   no_memory_run (WriteFault status k text due short part rose) e = absurd (omega arith)
-  no_memory_run (ReadFault solo rose nothing) e = absurd (omega arith)
+  no_memory_run (ReadFault command asks few rose nothing) e = absurd (omega arith)
   no_memory_run (NoMemory nothing) e = nothing
 
   -- status 9
-  too_long_due : {status : ℕ} {text : List ℕ} → IsDue words old new status text → status ≡ 9 → AreSolo words × ReadTooMany old new × (text ≡ too_long_text)
-  too_long_due (Usage apart nothing) e = absurd (omega arith)
-  too_long_due (TooLong solo many) e = (solo, many, refl)
-  too_long_due (Said bytes status text solo all output) e = absurd (other status 9 (output-status output) refl e)
+  too_long_due : {status : ℕ} {text : List ℕ} → IsDue words old new status text → status ≡ 9 → AskForSome words × ReadTooMany old new × (text ≡ too_long_text)
+  too_long_due (Usage none nothing) e = absurd (omega arith)
+  too_long_due (NotBuilt more nothing) e = absurd (omega arith)
+  too_long_due (TooLong command asks many) e = ((command, asks), many, refl)
+  too_long_due (Said command bytes status text asks all output) e = absurd (other status 9 (output-status output) refl e)
 
-  too_long_run : {status : ℕ} → HasRun words old new status → status ≡ 9 → AreSolo words × ReadTooMany old new × Appends old.written new.written too_long_text
+  too_long_run : {status : ℕ} → HasRun words old new status → status ≡ 9 → AskForSome words × ReadTooMany old new × Appends old.written new.written too_long_text
   too_long_run (Wrote status text due whole) e = let cause = too_long_due due e in (cause.0, cause.1, subst (Appends old.written new.written) cause.2 whole)
   too_long_run (WriteFault status k text due short part rose) e = absurd (omega arith)
-  too_long_run (ReadFault solo rose nothing) e = absurd (omega arith)
+  too_long_run (ReadFault command asks few rose nothing) e = absurd (omega arith)
   too_long_run (NoMemory nothing) e = absurd (omega arith)
 
+  -- a run over a source that tells its bytes, of which too many were taken
+  module _ (bytes : List ℕ) (told : old.left ≡ Some bytes) where
+    untouched : ReadNothing old new → ReadTooMany old new → ⊥
+    untouched same taken =
+        let took = subst (λ left. Consumes (Some bytes) left taken.0) (same.0 ∙ told) (subst (λ left. Consumes left new.left taken.0) told taken.1.0) in
+        let none : length taken.0 ≡ length {A = ℕ} [] = one_length bytes taken.0 [] (Some bytes) took refl in
+        let size : length taken.0 ≡ MOST_BYTES + 1 = taken.1.1 in omega arith
+
+    many_due : {status : ℕ} {text : List ℕ} → IsDue words old new status text → ReadTooMany old new → (status ≡ 9) ⊎ ((status ≡ 7) ⊎ (status ≡ 8))
+    many_due (Usage none nothing) many = absurd (untouched nothing many)
+    many_due (NotBuilt more nothing) many = absurd (untouched nothing many)
+    many_due (TooLong command asks also) many = inl refl
+    many_due (Said command taken status text asks all output) many =
+        let same : length taken ≡ length many.0 = one_length bytes taken many.0 new.left (subst (λ left. Consumes left new.left taken) told all.1) (subst (λ left. Consumes left new.left many.0) told many.1.0) in
+        let few : length taken ≤ MOST_BYTES = all.0 in
+        let size : length many.0 ≡ MOST_BYTES + 1 = many.1.1 in absurd (omega arith)
+
+    many_run : {status : ℕ} → HasRun words old new status → ReadTooMany old new → (status ≡ 9) ⊎ ((status ≡ 7) ⊎ (status ≡ 8))
+    many_run (Wrote status text due whole) many = many_due due many
+    many_run (WriteFault status k text due short part rose) many = inr (inl refl)
+    many_run (ReadFault command asks few rose nothing) many =
+        let same : length few.0 ≡ length many.0 = one_length bytes few.0 many.0 new.left (subst (λ left. Consumes left new.left few.0) told few.1.0) (subst (λ left. Consumes left new.left many.0) told many.1.0) in
+        let less : length few.0 ≤ MOST_BYTES = few.1.1 in
+        let size : length many.0 ≡ MOST_BYTES + 1 = many.1.1 in absurd (omega arith)
+    many_run (NoMemory nothing) many = inr (inr refl)
+
+    -- and one that has too many
+    module _ (many : MOST_BYTES < length bytes) (asks : AskForSome words) where
+      more_than_all : {status : ℕ} {text : List ℕ} → IsDue words old new status text → (status ≡ 9) × (text ≡ too_long_text)
+      more_than_all (Usage none nothing) = absurd (usage-not-read asks.0 none asks.1)
+      more_than_all (NotBuilt more nothing) = absurd (more-not-read asks.0 more asks.1)
+      more_than_all (TooLong command also taken) = (refl, refl)
+      more_than_all (Said command taken status text also all output) =
+          let same : taken ≡ bytes = all_taken bytes taken new.left (subst (λ left. Consumes left new.left taken) told all.1) all.2 in
+          let size : length taken ≡ length bytes = ap length same in
+          let few : length taken ≤ MOST_BYTES = all.0 in absurd (omega arith)
+
+      many_completes : {status : ℕ} → HasRun words old new status → ¬ Rises old.read_faults new.read_faults → ¬ Rises old.write_faults new.write_faults →
+          (status ≡ 8) ⊎ ((status ≡ 9) × Appends old.written new.written too_long_text)
+      many_completes (Wrote status text due whole) no_read no_write = let is = more_than_all due in inr (is.0, subst (Appends old.written new.written) is.1 whole)
+      many_completes (WriteFault status k text due short part rose) no_read no_write = absurd (no_write rose)
+      many_completes (ReadFault command also few rose nothing) no_read no_write = absurd (no_read rose)
+      many_completes (NoMemory nothing) no_read no_write = inl refl
+
   -- the statuses of bytes
-  all_read_due : {status : ℕ} {text : List ℕ} → IsDue words old new status text → is_of_bytes status ≡ true → AreSolo words × ((bytes : List ℕ) × ReadAll old new bytes × IsOutput bytes status text)
-  all_read_due (Usage apart nothing) h = absurd (cc)
-  all_read_due (TooLong solo many) h = absurd (cc)
-  all_read_due (Said bytes status text solo all output) h = (solo, (bytes, all, output))
+  all_read_due : {status : ℕ} {text : List ℕ} → IsDue words old new status text → is_of_bytes status ≡ true →
+      (command : Command) × (bytes : List ℕ) × AskFor words command × ReadAll old new bytes × IsOutput command bytes status text
+  all_read_due (Usage none nothing) h = absurd (cc)
+  all_read_due (NotBuilt more nothing) h = absurd (cc)
+  all_read_due (TooLong command asks many) h = absurd (cc)
+  all_read_due (Said command bytes status text asks all output) h = (command, bytes, asks, all, output)
 
   all_read_run : {status : ℕ} → HasRun words old new status → is_of_bytes status ≡ true →
-      AreSolo words × ((bytes text : List ℕ) × ReadAll old new bytes × IsOutput bytes status text × Appends old.written new.written text)
-  all_read_run (Wrote status text due whole) h = let cause = all_read_due due h in (cause.0, (cause.1.0, text, cause.1.1, cause.1.2, whole))
+      (command : Command) × (bytes text : List ℕ) × AskFor words command × ReadAll old new bytes × IsOutput command bytes status text × Appends old.written new.written text
+  all_read_run (Wrote status text due whole) h = let cause = all_read_due due h in (cause.0, cause.1, text, cause.2, cause.3, cause.4, whole)
   all_read_run (WriteFault status k text due short part rose) h = absurd (cc)
-  all_read_run (ReadFault solo rose nothing) h = absurd (cc)
+  all_read_run (ReadFault command asks few rose nothing) h = absurd (cc)
   all_read_run (NoMemory nothing) h = absurd (cc)
 
   -- each status is known
-  known_due : (status : ℕ) → ((status ≡ 2) ⊎ (status ≡ 9)) ⊎ (is_of_bytes status ≡ true) → (is_of_bytes status || list_any (λ s. s == status) (2 ∷ 6 ∷ 7 ∷ 8 ∷ 9 ∷ [])) ≡ true
+  known_due : (status : ℕ) → ((status ≡ 2) ⊎ ((status ≡ 9) ⊎ (status ≡ 10))) ⊎ (is_of_bytes status ≡ true) →
+      (is_of_bytes status || list_any (λ s. s == status) (2 ∷ 6 ∷ 7 ∷ 8 ∷ 9 ∷ 10 ∷ [])) ≡ true
   known_due status (inl (inl two)) = rw two refl
-  known_due status (inl (inr nine)) = rw nine refl
-  known_due status (inr h) = or_left (is_of_bytes status) (list_any (λ s. s == status) (2 ∷ 6 ∷ 7 ∷ 8 ∷ 9 ∷ [])) h
+  known_due status (inl (inr (inl nine))) = rw nine refl
+  known_due status (inl (inr (inr ten))) = rw ten refl
+  known_due status (inr h) = or_left (is_of_bytes status) (list_any (λ s. s == status) (2 ∷ 6 ∷ 7 ∷ 8 ∷ 9 ∷ 10 ∷ [])) h
 
-  known_run : {status : ℕ} → HasRun words old new status → (is_of_bytes status || list_any (λ s. s == status) (2 ∷ 6 ∷ 7 ∷ 8 ∷ 9 ∷ [])) ≡ true
+  known_run : {status : ℕ} → HasRun words old new status → (is_of_bytes status || list_any (λ s. s == status) (2 ∷ 6 ∷ 7 ∷ 8 ∷ 9 ∷ 10 ∷ [])) ≡ true
   known_run (Wrote status text due whole) = known_due status (due_status due)
   known_run (WriteFault status k text due short part rose) = refl
-  known_run (ReadFault solo rose nothing) = refl
+  known_run (ReadFault command asks few rose nothing) = refl
   known_run (NoMemory nothing) = refl
 
   -- a run over a source that tells its bytes
-  module _ (bytes : List ℕ) (solo : AreSolo words) (told : old.left ≡ Some bytes) (few : length bytes ≤ MOST_BYTES) where
-    completes_due : {status : ℕ} {text : List ℕ} → IsDue words old new status text → IsOutput bytes status text
-    completes_due (Usage apart nothing) = absurd (apart solo)
-    completes_due (TooLong also many) =
+  module _ (command : Command) (bytes : List ℕ) (asks : AskFor words command) (told : old.left ≡ Some bytes) (few : length bytes ≤ MOST_BYTES) where
+    completes_due : {status : ℕ} {text : List ℕ} → IsDue words old new status text → IsOutput command bytes status text
+    completes_due (Usage none nothing) = absurd (usage-not-read command none asks)
+    completes_due (NotBuilt more nothing) = absurd (more-not-read command more asks)
+    completes_due (TooLong also same many) =
         let within : length many.0 ≤ length bytes = taken_within bytes many.0 new.left (subst (λ left. Consumes left new.left many.0) told many.1.0) in
         let size : length many.0 ≡ MOST_BYTES + 1 = many.1.1 in absurd (omega arith)
-    completes_due (Said taken status text also all output) =
+    completes_due (Said also taken status text too all output) =
         let same : taken ≡ bytes = all_taken bytes taken new.left (subst (λ left. Consumes left new.left taken) told all.1) all.2 in
-        subst (λ bs. IsOutput bs status text) same output
+        let one : also ≡ command = one-command also command too asks in
+        subst (λ c. IsOutput c bytes status text) one (subst (λ bs. IsOutput also bs status text) same output)
 
     completes_run : {status : ℕ} → HasRun words old new status → ¬ Rises old.read_faults new.read_faults → ¬ Rises old.write_faults new.write_faults →
-        (status ≡ 8) ⊎ ((text : List ℕ) × IsOutput bytes status text × Appends old.written new.written text)
+        (status ≡ 8) ⊎ ((text : List ℕ) × IsOutput command bytes status text × Appends old.written new.written text)
     completes_run (Wrote status text due whole) no_read no_write = inr (text, completes_due due, whole)
     completes_run (WriteFault status k text due short part rose) no_read no_write = absurd (no_write rose)
-    completes_run (ReadFault also rose nothing) no_read no_write = absurd (no_read rose)
+    completes_run (ReadFault also same fewer rose nothing) no_read no_write = absurd (no_read rose)
     completes_run (NoMemory nothing) no_read no_write = inl refl
 
 pub usage : UsageIsOfTheWords
 usage words old new run = usage_run words old new run refl
 
 pub words_decide : WordsDecideTheUsage
-words_decide words old new status run not_solo = words_run words old new run not_solo
+words_decide words old new status run no_form = words_run words old new run no_form
+
+pub not_built : NotBuiltIsOfTheWords
+not_built words old new run = not_built_run words old new run refl
+
+pub words_decide_not_built : WordsDecideNotBuilt
+words_decide_not_built words old new status run more = more_run words old new run more
 
 pub read_fault : ReadFaultIsOfTheSource
 read_fault words old new run = read_fault_run words old new run refl
@@ -168,6 +303,12 @@ write_fault words old new run = write_fault_run words old new run refl
 
 pub too_long : TooLongIsOfTheBytes
 too_long words old new run = too_long_run words old new run refl
+
+pub too_many_decide : TooManyDecide
+too_many_decide words old new status bytes run told many = many_run words old new bytes told run many
+
+pub too_many_complete : TooManyComplete
+too_many_complete words old new status bytes run asks told many no_read no_write = many_completes words old new bytes told many asks run no_read no_write
 
 pub no_memory : NoMemoryWritesNothing
 no_memory words old new run = no_memory_run words old new run refl
@@ -179,4 +320,4 @@ pub known : StatusesAreKnown
 known words old new status run = known_run words old new run
 
 pub completes : RunCompletes
-completes words old new status bytes run solo told few no_read no_write = completes_run words old new bytes solo told few run no_read no_write
+completes words old new status command bytes run asks told few no_read no_write = completes_run words old new command bytes asks told few run no_read no_write

@@ -1,7 +1,5 @@
-pub mod Lines
-pub mod Reading
-pub mod Printed
-pub mod Answers
+pub mod Requests
+pub mod LocalStates
 pub mod Output
 pub mod Run
 pub mod Laws

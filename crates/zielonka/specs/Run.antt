@@ -1,10 +1,13 @@
 -- What a run of the program does, from its source to its sink.
-use Rattle.std.specs.Prelude.{◌≡◌, ℕ, ◌<◌, ◌≤◌, ◌+◌, List, [], ◌∷◌, length, take, codes, Option}
+use Rattle.std.specs.Prelude.{◌≡◌, ℕ, ◌<◌, ◌≤◌, ◌+◌, List, length, take, Option}
 use Rattle.std.specs.Io.KnownBytes.{Consumes, Appends, IsAtEnd}
 use Rattle.za_base.specs.Read.{Took}
 use Rattle.za_base.specs.Fault.{Rises}
 use Rattle.zielonka.specs.declared.run.TheConstants.{MOST_BYTES}
-use Rattle.zielonka.specs.Output.{IsOutput, usage_text, too_long_text}
+use Rattle.zielonka.specs.declared.request.Command.{Command}
+use Rattle.zielonka.specs.declared.request.Request.TheVariants.{Usage as AsksUsage, NotBuilt as AsksMore, Answer as Asks}
+use Rattle.zielonka.specs.Requests.{request_in}
+use Rattle.zielonka.specs.Output.{IsOutput, usage_text, too_long_text, not_built_text}
 
 -- the source and the sink at one moment: the bytes left and written, where they tell them, and their counts of faults
 pub record Ends : Type 0 where
@@ -13,9 +16,17 @@ pub record Ends : Type 0 where
   pub written : Option (List ℕ)
   pub write_faults : ℕ
 
--- the words are the one word `solo`
-abbrev pub AreSolo : List (List ℕ) → Type 0
-AreSolo words = words ≡ codes "solo" ∷ []
+-- the words are in no form of a command that waits for nobody
+abbrev pub AreNoForm : List (List ℕ) → Type 0
+AreNoForm words = request_in words ≡ AsksUsage
+
+-- they are in a form that isn't built yet
+abbrev pub AreNotBuilt : List (List ℕ) → Type 0
+AreNotBuilt words = request_in words ≡ AsksMore
+
+-- they ask for a command that reads the source
+abbrev pub AskFor : List (List ℕ) → Command → Type 0
+AskFor words command = request_in words ≡ Asks command
 
 -- the source was not read
 abbrev pub ReadNothing : Ends → Ends → Type 0
@@ -24,6 +35,10 @@ ReadNothing old new = (new.left ≡ old.left) × (new.read_faults ≡ old.read_f
 -- these are all the bytes up to the source's end, and not too many
 abbrev pub ReadAll : Ends → Ends → List ℕ → Type 0
 ReadAll old new bytes = (length bytes ≤ MOST_BYTES) × Consumes old.left new.left bytes × IsAtEnd new.left
+
+-- no more bytes than the limit were taken from the source
+abbrev pub ReadNotTooMany : Ends → Ends → Type 0
+ReadNotTooMany old new = Took old.left new.left (λ n. n ≤ MOST_BYTES)
 
 -- one byte more than the limit was taken from the source
 abbrev pub ReadTooMany : Ends → Ends → Type 0
@@ -41,9 +56,11 @@ pub data HasSaid (status : ℕ) (text : List ℕ) (written now : Option (List �
 
 -- the status and the text that are due
 pub data IsDue (words : List (List ℕ)) (old new : Ends) : ℕ → List ℕ → Type 0 where
-  Usage : ¬ AreSolo words → ReadNothing old new → IsDue words old new 2 usage_text
-  TooLong : AreSolo words → ReadTooMany old new → IsDue words old new 9 too_long_text
-  Said : (bytes : List ℕ) (status : ℕ) (text : List ℕ) → AreSolo words → ReadAll old new bytes → IsOutput bytes status text → IsDue words old new status text
+  Usage : AreNoForm words → ReadNothing old new → IsDue words old new 2 usage_text
+  NotBuilt : AreNotBuilt words → ReadNothing old new → IsDue words old new 10 not_built_text
+  TooLong : (command : Command) → AskFor words command → ReadTooMany old new → IsDue words old new 9 too_long_text
+  Said : (command : Command) (bytes : List ℕ) (status : ℕ) (text : List ℕ) → AskFor words command → ReadAll old new bytes → IsOutput command bytes status text →
+      IsDue words old new status text
 
 -- what a run with these words did, by the status that it ended with
 pub data HasRun (words : List (List ℕ)) (old new : Ends) : ℕ → Type 0 where
@@ -51,7 +68,11 @@ pub data HasRun (words : List (List ℕ)) (old new : Ends) : ℕ → Type 0 wher
   Wrote : (status : ℕ) (text : List ℕ) → IsDue words old new status text → Appends old.written new.written text → HasRun words old new status
   -- the sink's count of faults rose after a proper prefix of the text that is due
   WriteFault : (status k : ℕ) (text : List ℕ) → IsDue words old new status text → k < length text → Appends old.written new.written (take k text) → Rises old.write_faults new.write_faults → HasRun words old new 7
-  -- the source's count of faults rose
-  ReadFault : AreSolo words → Rises old.read_faults new.read_faults → WroteNothing old new → HasRun words old new 6
+  -- the source's count of faults rose before too many bytes were taken
+  ReadFault : (command : Command) → AskFor words command → ReadNotTooMany old new → Rises old.read_faults new.read_faults → WroteNothing old new → HasRun words old new 6
   -- memory was refused
   NoMemory : WroteNothing old new → HasRun words old new 8
+
+-- what a command did that reads the source, by the status that it ended with
+abbrev pub HasAnswered : Command → Ends → Ends → ℕ → Type 0
+HasAnswered command old new status = (words : List (List ℕ)) → AskFor words command → HasRun words old new status

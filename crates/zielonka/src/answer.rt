@@ -1,153 +1,148 @@
-//! The text of an answer.
+//! What is due for a job.
 
-ghost use Rattle.std.specs.Prelude.{◌≡◌, ◌<◌, ◌≤◌, ◌++◌, ◌∷◌, [], IfOk, OnOk, length, map};
-ghost use Rattle.std.specs.List.{range_with_len};
+ghost use Rattle.std.specs.Prelude.{◌≡◌, ◌<◌, IfOk, length};
 ghost use Rattle.za_alpha.specs.Words.{IsWord};
-ghost use Rattle.za_alpha.specs.Letters.{numbers};
-ghost use Rattle.za_script.specs.ScriptLists.{FitAlphabet};
-ghost use Rattle.zielonka.specs.Lines.{spaced, line, text_of};
-ghost use Rattle.zielonka.specs.Answers.{IsWeave, answer_text, answer_word, bound_line, fired_line, process_line, process_words, stuck_lines, wait_words};
+ghost use Rattle.za_alpha.specs.Alphabet.{loc_of};
+ghost use Rattle.za_dfa.specs.Automata.{IsTraceClosed};
+ghost use Rattle.za_dfa.specs.Tables.{automaton_of};
+ghost use Rattle.za_lang.specs.Answers.{data_of};
+ghost use Rattle.za_lang.specs.Jobs.{IsJob};
+ghost use Rattle.zielonka.specs.Output.{IsMinimalOf, IsAnswered, IsDueFor, IsOutput, answer_by, given, status_of};
 
-use crate::text::{push_names, push_number, push_number_line, push_word};
+use crate::locals::locals_after;
+use crate::request::Command;
+use crate::shown::locals_text;
 use std::alloc::Global;
-use za_alpha::{Alphabet, Letter, OutOfMemory};
-use za_script::{Answer, Scripts, Woven};
+use za_alpha::OutOfMemory;
+use za_closure::{Open, close};
+use za_dfa::{Closed, Dfa};
+use za_lang::{Job, JobFault, read_job};
+use za_report::{answer_text, check_text, open_text, refused_text};
+use za_script::{Answer, Woven, weave};
 
-/// The first word of an answer's text.
-fn word_of(answer: Answer) -> &'static [u8]
-    ensures { result.now ≡ answer_word answer }
+/// What is due for a text: a status, and what is written.
+#[derive(Debug, Drop)]
+pub(crate) struct Output {
+    pub(crate) status: u8,
+    pub(crate) text: Vec<u8>,
+}
+
+/// The number that an answer ends with.
+fn status_of(answer: Answer) -> u8
+    ensures { result ≡ status_of answer }
 {
     match answer {
-        Answer::Accept => b"accept",
-        Answer::Reject => b"reject",
-        Answer::Stuck => b"stuck",
+        Answer::Accept => 0,
+        Answer::Reject => 1,
+        Answer::Stuck => 3,
     }
 }
 
-/// The line of the bounds on event numbers and on records.
-fn push_bounds(text: &mut Vec<u8>, alphabet: &Alphabet) -> Result<(), OutOfMemory>
-    ensures { OnOk result (text.new.items ≡ text.old.items ++ line (bound_line alphabet.now)) }
+/// The answer that the weave gives.
+fn answer_of(dfa: &Dfa, woven: &Woven) -> Answer
+    requires { IsWord (length dfa.now.alphabet.letters) woven.now.word }
+    ensures { result ≡ answer_by (automaton_of dfa.now) woven.now }
 {
-    let n = alphabet.processes();
-    text.extend_from_slice(b"bound labels")?;
-    push_number(text, alphabet.letters() * (n.pow(3) + 1))?;
-    text.extend_from_slice(b" records")?;
-    push_number(text, n + 1)?;
-    text.push(b'\n')?;
-    Ok(())
-}
-
-/// What a process waits for after so many of its events: the next letter of its script, if there
-/// is one.
-fn push_wait(
-    text: &mut Vec<u8>,
-    alphabet: &Alphabet,
-    script: &[Letter],
-    fired: usize,
-) -> Result<(), OutOfMemory>
-    requires { IsWord (length alphabet.now.letters) (numbers script.now) }
-    ensures { OnOk result (text.new.items ≡ text.old.items ++ spaced (wait_words alphabet.now (numbers script.now) fired)) }
-{
-    if fired < script.len() {
-        push_word(text, b"waits")?;
-        push_word(text, alphabet.name(script[fired]))
+    if !woven.whole() {
+        Answer::Stuck
+    } else if dfa.accepts(woven.word()) {
+        Answer::Accept
     } else {
-        push_word(text, b"ended")
+        Answer::Reject
     }
 }
 
-/// The line of a process after so many of its events.
-fn push_process_words(
-    text: &mut Vec<u8>,
-    alphabet: &Alphabet,
-    script: &[Letter],
-    p: usize,
-    fired: usize,
-) -> Result<(), OutOfMemory>
-    requires { IsWord (length alphabet.now.letters) (numbers script.now) }
-    ensures { OnOk result (text.new.items ≡ text.old.items ++ line (process_words alphabet.now (numbers script.now) p fired)) }
+/// The answer to the scripts, and its text.
+fn solo(alloc: Global, closed: &Closed, job: &Job) -> Result<Output, OutOfMemory>
+    requires job { IsJob (data_of job.now) }
+    requires minimal { IsMinimalOf closed.now (given (data_of job.now)) }
+    ensures { IfOk result (λ output. IsAnswered (data_of job.now) Command.Solo output.status output.text.items) }
 {
-    text.extend_from_slice(b"process")?;
-    push_number(text, p)?;
-    push_word(text, b"fired")?;
-    push_number(text, fired)?;
-    push_wait(text, alphabet, script, fired)?;
-    text.push(b'\n')?;
-    Ok(())
+    let alphabet = job.lang.alphabet();
+    let woven = weave(alloc, alphabet, &job.scripts)?;
+    let answer = answer_of(closed.dfa(), &woven);
+    let text = answer_text(alloc, alphabet, &job.scripts, &woven, answer, 0)?;
+    Ok(Output {
+        status: status_of(answer),
+        text,
+    })
 }
 
-/// The line of a process where the scripts are stuck.
-fn push_process(
-    text: &mut Vec<u8>,
-    alphabet: &Alphabet,
-    scripts: &Scripts,
-    woven: &Woven,
-    p: usize,
-) -> Result<(), OutOfMemory>
-    requires fit { FitAlphabet alphabet.now scripts.now }
-    requires woven { IsWeave alphabet.now scripts.now woven.now }
-    requires process { p < alphabet.now.processes }
-    ensures { OnOk result (text.new.items ≡ text.old.items ++ line (process_line alphabet.now scripts.now woven.now.word p)) }
+/// How many states the minimal automaton has.
+fn check(alloc: Global, closed: &Closed, job: &Job) -> Result<Output, OutOfMemory>
+    requires job { IsJob (data_of job.now) }
+    requires minimal { IsMinimalOf closed.now (given (data_of job.now)) }
+    ensures { IfOk result (λ output. IsAnswered (data_of job.now) Command.Check output.status output.text.items) }
 {
-    let script = scripts.script(p).letters();
-    push_process_words(text, alphabet, script, p, woven.count(p))
+    let text = check_text(alloc, job.lang.alphabet(), closed.dfa().states(), 0)?;
+    Ok(Output { status: 0, text })
 }
 
-/// The lines of all processes where the scripts are stuck.
-fn push_processes(
-    text: &mut Vec<u8>,
-    alphabet: &Alphabet,
-    scripts: &Scripts,
-    woven: &Woven,
-) -> Result<(), OutOfMemory>
-    requires fit { FitAlphabet alphabet.now scripts.now }
-    requires woven { IsWeave alphabet.now scripts.now woven.now }
-    ensures { OnOk result (text.new.items ≡ text.old.items ++ text_of (map (process_line alphabet.now scripts.now woven.now.word) (range_with_len 0 alphabet.now.processes))) }
+/// The local states after the woven word.
+fn locals(alloc: Global, closed: &Closed, job: &Job) -> Result<Output, OutOfMemory>
+    requires job { IsJob (data_of job.now) }
+    requires minimal { IsMinimalOf closed.now (given (data_of job.now)) }
+    ensures { IfOk result (λ output. IsAnswered (data_of job.now) Command.Locals output.status output.text.items) }
 {
-    for p in 0..alphabet.processes() {
-        push_process(text, alphabet, scripts, woven, p)?;
-    }
-    Ok(())
+    let woven = weave(alloc, job.lang.alphabet(), &job.scripts)?;
+    let locals = locals_after(alloc, closed, woven.word())?;
+    let text = locals_text(alloc, closed, locals.as_slice())?;
+    Ok(Output { status: 0, text })
 }
 
-/// The lines where the scripts are stuck: each process, and the word that fired.
-fn push_stuck(
-    text: &mut Vec<u8>,
-    alphabet: &Alphabet,
-    scripts: &Scripts,
-    woven: &Woven,
-) -> Result<(), OutOfMemory>
-    requires fit { FitAlphabet alphabet.now scripts.now }
-    requires woven { IsWeave alphabet.now scripts.now woven.now }
-    requires word { IsWord (length alphabet.now.letters) woven.now.word }
-    ensures { OnOk result (text.new.items ≡ text.old.items ++ text_of (stuck_lines alphabet.now scripts.now woven.now.word)) }
-{
-    push_processes(text, alphabet, scripts, woven)?;
-    text.extend_from_slice(b"trace")?;
-    push_names(text, alphabet, woven.word().letters())?;
-    text.push(b'\n')?;
-    Ok(())
-}
-
-/// The text of an answer to scripts, with their weave.
-pub(crate) fn answer_text(
+/// What a command answers to a job with a trace-closed language, by its minimal automaton.
+fn answered(
     alloc: Global,
-    alphabet: &Alphabet,
-    scripts: &Scripts,
-    woven: &Woven,
-    answer: Answer,
-) -> Result<Vec<u8>, OutOfMemory>
-    requires fit { FitAlphabet alphabet.now scripts.now }
-    requires woven { IsWeave alphabet.now scripts.now woven.now }
-    requires word { IsWord (length alphabet.now.letters) woven.now.word }
-    ensures { IfOk result (λ text. text.items ≡ answer_text alphabet.now scripts.now woven.now.word answer) }
+    command: Command,
+    closed: &Closed,
+    job: &Job,
+) -> Result<Output, OutOfMemory>
+    requires job { IsJob (data_of job.now) }
+    requires minimal { IsMinimalOf closed.now (given (data_of job.now)) }
+    ensures { IfOk result (λ output. IsAnswered (data_of job.now) command output.status output.text.items) }
 {
-    let mut text = Vec::from_slice(alloc, word_of(answer))?;
-    text.push(b'\n')?;
-    push_number_line(&mut text, b"fired", woven.word().len())?;
-    push_bounds(&mut text, alphabet)?;
-    if let Answer::Stuck = answer {
-        push_stuck(&mut text, alphabet, scripts, woven)?;
+    match command {
+        Command::Solo => solo(alloc, closed, job),
+        Command::Check => check(alloc, closed, job),
+        Command::Locals => locals(alloc, closed, job),
     }
-    Ok(text)
+}
+
+/// What is due for a job.
+fn judged(alloc: Global, command: Command, job: &Job) -> Result<Output, OutOfMemory>
+    requires { IsJob (data_of job.now) }
+    ensures { IfOk result (λ output. IsDueFor command (data_of job.now) output.status output.text.items) }
+{
+    let dfa = job.lang.dfa()?;
+    match close(alloc, &dfa) {
+        Ok(closed) => answered(alloc, command, &closed, job),
+        Err(open) => match open {
+            Open::NotClosed { left, right } => Ok(Output {
+                status: 5,
+                text: open_text(alloc, job.lang.alphabet(), &left, &right)?,
+            }),
+            Open::OutOfMemory => Err(OutOfMemory),
+        },
+    }
+}
+
+/// What is due for a text.
+pub(crate) fn output_of(
+    alloc: Global,
+    command: Command,
+    bytes: &[u8],
+) -> Result<Output, OutOfMemory>
+    requires { length bytes.now < 4294967295 }
+    ensures { IfOk result (λ output. IsOutput command bytes.now output.status output.text.items) }
+{
+    match read_job(alloc, bytes) {
+        Ok(job) => judged(alloc, command, &job),
+        Err(fault) => match fault {
+            JobFault::Text(fault) => Ok(Output {
+                status: 4,
+                text: refused_text(alloc, &fault)?,
+            }),
+            JobFault::OutOfMemory => Err(OutOfMemory),
+        },
+    }
 }

@@ -1,27 +1,33 @@
 //! Laws over the definitions alone.
 
-ghost use Rattle.zielonka.specs.Laws.{AnswerIsOfAllBytes, NoMemoryWritesNothing, NoTwoJobsPrintAlike, ReadFaultIsOfTheSource, RunCompletes, StatusesAreKnown, TooLongIsOfTheBytes, UsageIsOfTheWords, WordsDecideTheUsage, WriteFaultIsOfTheSink};
+ghost use Rattle.zielonka.specs.Laws.{AnswerIsOfAllBytes, NoMemoryWritesNothing, NotBuiltIsOfTheWords, OutputIsOne, ReadFaultIsOfTheSource, RunCompletes, StatusesAreKnown, TooLongIsOfTheBytes, TooManyComplete, TooManyDecide, UsageIsOfTheWords, WordsDecideNotBuilt, WordsDecideTheUsage, WriteFaultIsOfTheSink};
 
-/// A printed text says one job: two jobs under the limits that print alike are equal.
-#[tactic(auto, using(crate::proofs::Alike::no_two_jobs_print_alike))]
-pub fn no_two_jobs_print_alike()
-    ensures { NoTwoJobsPrintAlike }
+/// For each command and each text one status and one text are due.
+#[tactic(auto, using(crate::proofs::OneOutput::output_is_one))]
+pub fn what_is_due_is_one()
+    ensures { OutputIsOne }
 {}
 
-/// What a run did tells the cause of its status. Status 2 comes only of words that aren't `solo`,
-/// with nothing read, and such words have no other status but 7 and 8. Status 6 comes only where the
-/// source's count of faults rose, with nothing written, and 7 only where the sink's did, after a
-/// proper prefix of a text that is due. Status 9 comes only where one byte more than the limit was
-/// taken, and 8, want of memory, with nothing written. Each of 0, 1, 3, 4 and 10 comes only where all
-/// bytes were read, and the text that is due for them was written whole. Where the source tells its
-/// bytes and has not too many, and neither count of faults rose, `solo` ends with 8 or with what is
-/// due for all bytes. A count that stands at its last value counts as one that rose.
+/// What a run did tells the cause of its status. Status 2 comes only of words that are in no form,
+/// with nothing read, and such words have no other status but 7 and 8; so does 10 of words in a form
+/// that isn't built. Status 6 comes only where the source's count of faults rose before too many
+/// bytes were taken, with nothing written, and 7 only where the sink's did, after a proper prefix of a
+/// text that is due. Status 9 comes only where one byte more than the limit was taken, and where the
+/// source tells its bytes, a run that took so many ends with 9, 7 or 8. Status 8, want of memory, comes
+/// with nothing written. Each of 0, 1, 3, 4 and 5 comes only where all bytes were read, and the text that is due
+/// for them was written whole. Where the source tells its bytes and has not too many, and neither
+/// count of faults rose, a command that reads them ends with 8 or with what is due for all bytes. A
+/// count that stands at its last value counts as one that rose.
 pub fn statuses_have_their_causes()
     ensures usage { UsageIsOfTheWords }
     ensures words { WordsDecideTheUsage }
+    ensures not_built { NotBuiltIsOfTheWords }
+    ensures words_not_built { WordsDecideNotBuilt }
     ensures read_fault { ReadFaultIsOfTheSource }
     ensures write_fault { WriteFaultIsOfTheSink }
     ensures too_long { TooLongIsOfTheBytes }
+    ensures too_many { TooManyDecide }
+    ensures too_many_complete { TooManyComplete }
     ensures no_memory { NoMemoryWritesNothing }
     ensures all_read { AnswerIsOfAllBytes }
     ensures known { StatusesAreKnown }

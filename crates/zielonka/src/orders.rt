@@ -1,11 +1,12 @@
 //! Every order of firing of small jobs, found by trying each enabled letter, against the weave.
 
-use crate::read::{Job, read_plain};
 use std::alloc::Global;
 use std::process::Abort;
 use std::test::Fail;
 use za_alpha::{Alphabet, Letter, OutOfMemory, Word};
-use za_dfa::{Closed, Dfa};
+use za_closure::close;
+use za_dfa::Dfa;
+use za_lang::{Job, read_job};
 use za_script::{Scripts, weave};
 
 const TWO: &str =
@@ -18,7 +19,7 @@ const STUCK: &str =
     "zla 1\nprocesses 2\nletter a 0\nletter b 1\nletter c 0 1\nstates 2\nstart 0\naccept 0\nrow 0 a 1\nrow 0 b 0\nrow 0 c 0\nrow 1 a 0\nrow 1 b 1\nrow 1 c 1\nscript 0 c a\nscript 1 b\nend\n";
 
 const LOCK: &str =
-    "zla 1\nprocesses 3\nletter lock0 0 2\nletter unlock0 0 2\nletter lock1 1 2\nletter unlock1 1 2\nletter work0 0\nletter work1 1\nstates 4\nstart 0\naccept 0\nrow 0 lock0 1\nrow 0 unlock0 3\nrow 0 lock1 2\nrow 0 unlock1 3\nrow 0 work0 3\nrow 0 work1 3\nrow 1 lock0 3\nrow 1 unlock0 0\nrow 1 lock1 3\nrow 1 unlock1 3\nrow 1 work0 1\nrow 1 work1 3\nrow 2 lock0 3\nrow 2 unlock0 3\nrow 2 lock1 3\nrow 2 unlock1 0\nrow 2 work0 3\nrow 2 work1 2\nrow 3 lock0 3\nrow 3 unlock0 3\nrow 3 lock1 3\nrow 3 unlock1 3\nrow 3 work0 3\nrow 3 work1 3\nscript 0 lock0 work0 unlock0\nscript 1 lock1 work1 unlock1\nscript 2 lock1 unlock1 lock0 unlock0\nend\n";
+    "zla 1\nprocesses 3\nletter lock0 0 2\nletter unlock0 0 2\nletter lock1 1 2\nletter unlock1 1 2\nletter work0 0\nletter work1 1\nstates 3\nstart 0\naccept 0\nrow 0 lock0 1\nrow 1 work0 1\nrow 1 unlock0 0\nrow 0 lock1 2\nrow 2 work1 2\nrow 2 unlock1 0\nscript 0 lock0 work0 unlock0\nscript 1 lock1 work1 unlock1\nscript 2 lock1 unlock1 lock0 unlock0\nend\n";
 
 /// Whether the letter is the next one of each of its processes after the word.
 fn is_enabled(
@@ -100,11 +101,9 @@ fn assert_same_answer(rt: &impl Abort, dfa: &Dfa, word: &Word, woven: &Word) {
 }
 
 /// How many words fit the scripts maximally; each has the answer of the weave.
-fn orders_of(rt: &impl Abort, alloc: Global, job: Job) -> Result<usize, OutOfMemory> {
-    let closed = match Closed::new(job.dfa) {
-        Ok(closed) => closed,
-        Err(_) => panic!(rt; "a broken diamond"),
-    };
+fn orders_of(rt: &impl Abort, alloc: Global, job: &Job) -> Result<usize, Fail> {
+    let dfa = job.lang.dfa()?;
+    let closed = close(alloc, &dfa).ok().ok_or("not closed")?;
     let dfa = closed.dfa();
     assert!(rt; job.scripts.fits(dfa.alphabet()));
     let woven = weave(alloc, dfa.alphabet(), &job.scripts)?;
@@ -119,8 +118,9 @@ fn orders_of(rt: &impl Abort, alloc: Global, job: Job) -> Result<usize, OutOfMem
 fn every_order_of_firing_has_the_answer_of_the_weave(rt: HostRuntime) -> Result<(), Fail> {
     let alloc = rt.alloc();
     for (text, orders) in [(TWO, 2usize), (MANY, 6), (STUCK, 1), (LOCK, 1)] {
-        let job = read_plain(alloc, text.as_bytes())?.ok_or("not plain")?;
-        assert_eq!(rt; orders_of(&rt, alloc, job)?, orders);
+        assert!(rt; text.len() < 1000);
+        let job = read_job(alloc, text.as_bytes()).ok().ok_or("refused")?;
+        assert_eq!(rt; orders_of(&rt, alloc, &job)?, orders);
     }
     Ok(())
 }

@@ -2,9 +2,10 @@
 ///
 /// | Number | Meaning |
 /// |---|---|
-/// | 0, 1, 3 | accept, reject, stuck |
+/// | 0, 1, 3 | accept or done, reject, stuck |
 /// | 2 | usage: the words are in no form |
-/// | 4 | the input is refused |
+/// | 4 | the input is no document |
+/// | 5 | the language is not closed under trace equivalence |
 /// | 6, 7 | a read, a write failed |
 /// | 8 | memory was refused |
 /// | 9 | the input has more than 1,048,576 bytes |

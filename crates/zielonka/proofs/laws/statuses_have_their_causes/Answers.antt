@@ -1,4 +1,4 @@
-use Rattle.zielonka.proofs.Causes.{usage, words_decide, read_fault, write_fault, too_long, no_memory, all_read, known, completes}
+use Rattle.zielonka.proofs.Causes.{usage, words_decide, not_built, words_decide_not_built, read_fault, write_fault, too_long, too_many_decide, too_many_complete, no_memory, all_read, known, completes}
 use Rattle.zielonka.proofs.laws.statuses_have_their_causes.Goals as goal
 
 pub returns-clause-usage : goal.returns-clause-usage
@@ -6,6 +6,12 @@ returns-clause-usage c = usage
 
 pub returns-clause-words : goal.returns-clause-words
 returns-clause-words c = words_decide
+
+pub returns-clause-not_built : goal.returns-clause-not_built
+returns-clause-not_built c = not_built
+
+pub returns-clause-words_not_built : goal.returns-clause-words_not_built
+returns-clause-words_not_built c = words_decide_not_built
 
 pub returns-clause-read_fault : goal.returns-clause-read_fault
 returns-clause-read_fault c = read_fault
@@ -15,6 +21,12 @@ returns-clause-write_fault c = write_fault
 
 pub returns-clause-too_long : goal.returns-clause-too_long
 returns-clause-too_long c = too_long
+
+pub returns-clause-too_many : goal.returns-clause-too_many
+returns-clause-too_many c = too_many_decide
+
+pub returns-clause-too_many_complete : goal.returns-clause-too_many_complete
+returns-clause-too_many_complete c = too_many_complete
 
 pub returns-clause-no_memory : goal.returns-clause-no_memory
 returns-clause-no_memory c = no_memory

@@ -1,0 +1,85 @@
+-- For a command and bytes one status and one text are due.
+use Rattle.std.proofs.Common.{◌≡◌, ℕ, true, false, List, length, Some, None, sym, ap, subst, ◌∙◌, refl}
+use Rattle.std.specs.Prelude.{unwrap_or, is_some}
+use Rattle.za_alpha.specs.Words.{IsWord}
+use Rattle.za_alpha.specs.Alphabet.{DistributedAlphabet, loc_of}
+use Rattle.za_dfa.specs.Automata.{Automaton, IsTraceClosed}
+use Rattle.za_dfa.specs.Tables.{CompleteDfa, automaton_of}
+use Rattle.za_min.specs.Minimal.{MinimalDfa}
+use Rattle.za_min.proofs.Canonical.{minimal_dfas_are_one}
+use Rattle.za_closure.specs.Breaks.{Break, IsLeastBreak, left_word, right_word}
+use Rattle.za_closure.proofs.BreakLemmas.{least_breaks_are_one}
+use Rattle.za_closure.proofs.ClosedLemmas.{closed_is_unbroken}
+use Rattle.za_text.specs.declared.kind.TextFault.{TextFault}
+use Rattle.za_lang.specs.Jobs.{JobData, IsJob}
+use Rattle.za_lang.specs.Documents.{fault_of, job_of}
+use Rattle.za_script.specs.declared.answer.Answer.{Answer}
+use Rattle.za_script.specs.declared.answer.Answer.TheVariants.{Accept, Reject, Stuck}
+use Rattle.za_script.specs.Answer.{IsAnswer}
+use Rattle.za_report.specs.Texts.{answer_text, check_text, open_text, refused_text}
+use Rattle.zielonka.specs.declared.request.Command.{Command}
+use Rattle.zielonka.specs.LocalStates.{locals_text}
+use Rattle.zielonka.specs.Output.{IsMinimalOf, IsAnswered, Ran, Checked, Shown, IsDueFor, Open, Answered, Refused, Read, given, word_of, status_of}
+use Rattle.zielonka.specs.Laws.{OutputIsOne}
+
+-- one status and one text
+abbrev IsOne : (s t : ℕ) (x y : List ℕ) → Type 0
+IsOne s t x y = (s ≡ t) × (x ≡ y)
+
+-- of two minimal automata of one language
+minimal-one : (d e other : CompleteDfa) → IsMinimalOf d other → IsMinimalOf e other → d ≡ e
+minimal-one d e other m n =
+    let same : d.alphabet ≡ e.alphabet = m.alphabet ∙ sym n.alphabet in
+    ap (λ (k : MinimalDfa). k.dfa)
+    (minimal_dfas_are_one (record { dfa = d; access = m.access }) (record { dfa = e; access = n.access }) m.complete n.complete
+    (record { minimal = m.minimal; numbered = m.numbered }) (record { minimal = n.minimal; numbered = n.numbered }) same
+    (λ w h. m.language w h ∙ sym (n.language w (subst (λ (a : DistributedAlphabet). IsWord (length a.letters) w) same h))))
+
+-- of two answers to scripts
+answer-one : (loc : ℕ → List ℕ) (d : Automaton) (scripts : ℕ → List ℕ) (a b : Answer) → IsAnswer loc d scripts a → IsAnswer loc d scripts b → a ≡ b
+answer-one loc d scripts Accept Accept g h = refl
+answer-one loc d scripts Accept Reject g h = let f = h.1 g.0 g.1 in let t = g.2 in let both : true ≡ false = sym t ∙ f in cc
+answer-one loc d scripts Accept Stuck g h = absurd (h g.0 g.1)
+answer-one loc d scripts Reject Accept g h = let f = g.1 h.0 h.1 in let t = h.2 in let both : true ≡ false = sym t ∙ f in cc
+answer-one loc d scripts Reject Reject g h = refl
+answer-one loc d scripts Reject Stuck g h = absurd (h g.0.0 g.0.1)
+answer-one loc d scripts Stuck Accept g h = absurd (g h.0 h.1)
+answer-one loc d scripts Stuck Reject g h = absurd (g h.0.0 h.0.1)
+answer-one loc d scripts Stuck Stuck g h = refl
+
+-- what is due for a job by its number of states, by the automaton, by the answer
+answered-one : (job : JobData) (command : Command) (s t : ℕ) (x y : List ℕ) → IsAnswered job command s x → IsAnswered job command t y → IsOne s t x y
+answered-one job command s t x y (Ran a right) (Ran b also) =
+    let one = answer-one (loc_of job.lang.alphabet) (automaton_of (given job)) _ a b right also in
+    (ap status_of one, ap (λ k. answer_text job.lang.alphabet job.scripts (word_of job) k 0) one)
+answered-one job command s t x y (Checked d m) (Checked e n) =
+    (refl, ap (λ (k : CompleteDfa). check_text job.lang.alphabet k.states 0) (minimal-one d e (given job) m n))
+answered-one job command s t x y (Shown d m) (Shown e n) =
+    (refl, ap (λ (k : CompleteDfa). locals_text k (word_of job)) (minimal-one d e (given job) m n))
+
+-- a language with a break isn't closed
+not-both : (job : JobData) → IsJob job → (k : Break) → IsLeastBreak (loc_of job.lang.alphabet) (automaton_of (given job)) k →
+    IsTraceClosed (loc_of job.lang.alphabet) (automaton_of (given job)) → ⊥
+not-both job fine k least closed =
+    (closed_is_unbroken (loc_of job.lang.alphabet) job.lang.alphabet.processes (automaton_of (given job)) fine.lang.distributed.located).0 closed k least.is
+
+due-one : (job : JobData) (command : Command) (s t : ℕ) (x y : List ℕ) → IsJob job → IsDueFor command job s x → IsDueFor command job t y → IsOne s t x y
+due-one job command s t x y fine (Open k least) (Open l also) =
+    let one = least_breaks_are_one (loc_of job.lang.alphabet) (automaton_of (given job)) k l least also in
+    (refl, ap (λ (b : Break). open_text job.lang.alphabet (left_word b) (right_word b)) one)
+due-one job command s t x y fine (Open k least) (Answered status text closed answered) = absurd (not-both job fine k least closed)
+due-one job command s t x y fine (Answered status text closed answered) (Open k least) = absurd (not-both job fine k least closed)
+due-one job command s t x y fine (Answered status text closed answered) (Answered other said also too) =
+    answered-one job command status other text said answered too
+
+-- bytes are refused or read, and refused at one line
+not-read : (bytes : List ℕ) (fault : TextFault) → fault_of bytes ≡ Some fault → fault_of bytes ≡ None → ⊥
+not-read bytes fault some none = let both : true ≡ false = ap is_some (sym some ∙ none) in absurd (cc)
+
+pub output_is_one : OutputIsOne
+output_is_one command bytes s t x y (Refused fault wrong) (Refused other also) =
+    (refl, ap (λ (f : TextFault). refused_text f) (ap (λ o. unwrap_or o fault) (sym wrong ∙ also)))
+output_is_one command bytes s t x y (Refused fault wrong) (Read status text right fine due) = absurd (not-read bytes fault wrong right)
+output_is_one command bytes s t x y (Read status text right fine due) (Refused fault wrong) = absurd (not-read bytes fault wrong right)
+output_is_one command bytes s t x y (Read status text right fine due) (Read other said also too more) =
+    due-one (job_of bytes) command status other text said fine due more

@@ -1,9 +1,0 @@
-use Rattle.std.proofs.Common.{◌≡◌, ◌++◌, map}
-use Rattle.std.specs.List.{range_with_len}
-use Rattle.zielonka.specs.Lines.{text_of}
-use Rattle.zielonka.specs.Answers.{process_line}
-use Rattle.zielonka.proofs.answer.push_processes.Given as goal
-
--- the lines of the processes so far
-abbrev pub invariant-loop-p : goal.invariant-loop-p
-invariant-loop-p l = l.text.items ≡ l.initial.text.items ++ text_of (map (process_line l.alphabet l.scripts l.woven.word) (range_with_len 0 l.p))

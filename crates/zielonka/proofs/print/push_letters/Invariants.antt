@@ -1,8 +1,0 @@
-use Rattle.std.proofs.Common.{◌≡◌, ◌++◌, map, take}
-use Rattle.zielonka.specs.Lines.{text_of}
-use Rattle.zielonka.specs.Printed.{letter_line}
-use Rattle.zielonka.proofs.print.push_letters.Given as goal
-
--- the lines of the letters so far
-abbrev pub invariant-loop-a : goal.invariant-loop-a
-invariant-loop-a l = l.text.items ≡ l.initial.text.items ++ text_of (map letter_line (take l.a l.alphabet.letters))

@@ -1,9 +1,0 @@
-use Rattle.std.proofs.Common.{◌≡◌, ◌++◌, map}
-use Rattle.std.specs.List.{range_with_len}
-use Rattle.zielonka.specs.Lines.{text_of}
-use Rattle.zielonka.specs.Printed.{script_line}
-use Rattle.zielonka.proofs.print.push_scripts.Given as goal
-
--- the script lines of the processes so far
-abbrev pub invariant-loop-p : goal.invariant-loop-p
-invariant-loop-p l = l.text.items ≡ l.initial.text.items ++ text_of (map (script_line l.alphabet l.scripts) (range_with_len 0 l.p))
