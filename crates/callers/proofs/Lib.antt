@@ -1,0 +1,4 @@
+pub mod FewStates
+pub mod BreakWords
+pub mod WithoutLetter
+pub mod Openings

@@ -1,0 +1,62 @@
+//! Callers of za_lang and za_print.
+
+ghost use Rattle.std.specs.Prelude.{◌≡◌, ◌<◌, None, length, IfOk, IfErr, MatchOption, MatchResult};
+ghost use Rattle.za_alpha.specs.Alphabet.{loc_of};
+ghost use Rattle.za_dfa.specs.Diamonds.{BreaksDiamond};
+ghost use Rattle.za_dfa.specs.Tables.{automaton_of};
+ghost use Rattle.za_script.specs.Answer.{IsAnswer};
+ghost use Rattle.za_script.specs.ScriptLists.{script_of};
+ghost use Rattle.za_lang.specs.Langs.{completion};
+ghost use Rattle.za_lang.specs.Answers.{IsRefused};
+ghost use Rattle.za_lang.specs.Documents.{fault_of, job_of};
+ghost use Rattle.za_print.specs.Printed.{printed};
+
+use crate::scripts::answer;
+use std::alloc::Global;
+use za_alpha::OutOfMemory;
+use za_dfa::Closed;
+use za_lang::{JobFault, read_job};
+use za_print::print_job;
+use za_script::Answer;
+
+/// The printed form of a document: each document that says the same job has it, and it says this job
+/// itself.
+pub fn normal_form(alloc: Global, bytes: &[u8]) -> Result<Vec<u8>, JobFault>
+    requires { length bytes.now < 4294967295 }
+    ensures form { MatchResult result
+        (λ text. (fault_of bytes.now ≡ None) × (text.items ≡ printed (job_of bytes.now)))
+        (IsRefused bytes.now) }
+    ensures same { IfOk result (λ text.
+        (fault_of text.items ≡ None) × (job_of text.items ≡ job_of bytes.now)) }
+{
+    let job = read_job(alloc, bytes)?;
+    match print_job(alloc, &job) {
+        Ok(text) => Ok(text),
+        Err(OutOfMemory) => Err(JobFault::OutOfMemory),
+    }
+}
+
+/// The answer of a document's language to its scripts, and `None` exactly where its automaton, with
+/// the missing rows completed, has two independent letters whose order decides the state.
+pub fn answer_of(alloc: Global, bytes: &[u8]) -> Result<Option<Answer>, JobFault>
+    requires { length bytes.now < 4294967295 }
+    ensures answer { IfOk result (λ said. let d = completion (job_of bytes.now).lang in
+        MatchOption said
+        (BreaksDiamond (loc_of d.alphabet) (automaton_of d))
+        (IsAnswer (loc_of d.alphabet) (automaton_of d) (script_of (job_of bytes.now).scripts))) }
+    ensures refused { IfErr result (IsRefused bytes.now) }
+{
+    let job = read_job(alloc, bytes)?;
+    let dfa = match job.lang.dfa() {
+        Ok(dfa) => dfa,
+        Err(OutOfMemory) => return Err(JobFault::OutOfMemory),
+    };
+    let closed = match Closed::new(dfa) {
+        Ok(closed) => closed,
+        Err(_) => return Ok(None),
+    };
+    match answer(alloc, &closed, &job.scripts) {
+        Ok(answer) => Ok(Some(answer)),
+        Err(OutOfMemory) => Err(JobFault::OutOfMemory),
+    }
+}

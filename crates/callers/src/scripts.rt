@@ -1,0 +1,34 @@
+//! A caller of za_script.
+
+ghost use Rattle.std.specs.Prelude.{IfOk};
+ghost use Rattle.za_alpha.specs.Alphabet.{loc_of};
+ghost use Rattle.za_dfa.specs.Tables.{automaton_of};
+ghost use Rattle.za_script.specs.Answer.{IsAnswer};
+ghost use Rattle.za_script.specs.ScriptLists.{script_of, FitAlphabet};
+
+use std::alloc::Global;
+use za_alpha::OutOfMemory;
+use za_dfa::{Closed, diamonds_close_the_language};
+use za_script::{Answer, Scripts, answer_is_of_the_weave, weave, weaving_is_confluent};
+
+/// The answer of an automaton to scripts, which speaks of all words that weave them. One of these
+/// words is woven and run.
+pub fn answer(alloc: Global, closed: &Closed, scripts: &Scripts) -> Result<Answer, OutOfMemory>
+    requires { FitAlphabet closed.now.alphabet scripts.now }
+    ensures { IfOk result (λ answer. IsAnswer (loc_of closed.now.alphabet)
+        (automaton_of closed.now) (script_of scripts.now) answer) }
+{
+    diamonds_close_the_language();
+    weaving_is_confluent();
+    answer_is_of_the_weave();
+    let dfa = closed.dfa();
+    let _states = dfa.states();
+    let woven = weave(alloc, dfa.alphabet(), scripts)?;
+    if !woven.whole() {
+        Ok(Answer::Stuck)
+    } else if dfa.accepts(woven.word()) {
+        Ok(Answer::Accept)
+    } else {
+        Ok(Answer::Reject)
+    }
+}
