@@ -1,0 +1,353 @@
+"""A second reading of the definitions, in plain Python: unproved, slow, and written from docs/FORMATS.md and
+docs/THEOREMS.md and not from the program.
+
+It reads documents by the grammar, and works out the answers of `solo`, `check` and `locals` straight from the
+definitions: languages by words, views by positions, labels by tertiary entries. The repository's checks compare the
+program with it, and the drawings of tools/draw are made from it.
+"""
+import re
+from collections import deque
+
+MOST_BYTES = 1048576
+MOST_PROCESSES, MOST_LETTERS, MOST_STATES, MOST_SCRIPT_LETTERS = 6, 32, 32, 65536
+NAME = re.compile(rb"[A-Za-z_][A-Za-z0-9_]{0,31}\Z")
+NUMBER = re.compile(rb"(0|[1-9][0-9]{0,9})\Z")
+USAGE = b"usage: zla solo|run|check|locals|journal [--cache C], zla audit, zla gen N\n"
+
+
+class Refused(Exception):
+    """The first wrong line of a document, and its first failing test."""
+
+    def __init__(self, line, kind):
+        super().__init__("refused line %d: %s" % (line, kind))
+        self.line, self.kind = line, kind
+
+
+class Wrong(Exception):
+    """The first failing test of a line."""
+
+
+def want(condition, kind):
+    if not condition:
+        raise Wrong(kind)
+
+
+def number(word):
+    want(NUMBER.match(word) and int(word) < 2**32, "bad number")
+    return int(word)
+
+
+class Job:
+    """What the lines of a document say, gathered line by line."""
+
+    def __init__(self):
+        self.processes = self.states = self.start = 0
+        self.letters = []  # (name, processes in rising order)
+        self.accepting = set()
+        self.targets = {}  # (state, letter) to state
+        self.scripts = []
+
+    def letter_of(self, name):
+        for a, (other, _) in enumerate(self.letters):
+            if other == name:
+                return a
+        raise Wrong("no such letter")
+
+    def process_of(self, word):
+        p = number(word)
+        want(p < self.processes, "no such process")
+        return p
+
+    def state_of(self, word):
+        q = number(word)
+        want(q < self.states, "no such state")
+        return q
+
+    def name(self, a):
+        return self.letters[a][0].decode()
+
+    def loc(self, a):
+        return self.letters[a][1]
+
+    def independent(self, a, b):
+        return not set(self.loc(a)) & set(self.loc(b))
+
+
+# for each place, the first words that may stand there, and the place after each
+PLACES = [
+    {b"zla": 1},
+    {b"processes": 2},
+    {b"letter": 3},
+    {b"letter": 3, b"states": 4},
+    {b"start": 5},
+    {b"accept": 6},
+    {b"row": 6, b"script": 7, b"end": 8},
+    {b"script": 7, b"end": 8},
+]
+# for each first word, how many words its line has: exactly, or at least
+EXACTLY = {b"zla": 2, b"processes": 2, b"states": 2, b"start": 2, b"row": 4, b"end": 1}
+AT_LEAST = {b"letter": 2, b"accept": 1, b"script": 2}
+
+
+def take(job, first, words):
+    """The line's own tests in their order; what it says is gathered."""
+    if first == b"processes":
+        job.processes = number(words[0])
+        want(1 <= job.processes <= MOST_PROCESSES, "processes not in 1 to 6")
+        job.scripts = [[] for _ in range(job.processes)]
+    elif first == b"letter":
+        want(len(job.letters) < MOST_LETTERS, "more than 32 letters")
+        want(NAME.match(words[0]), "bad name")
+        want(all(words[0] != name for name, _ in job.letters), "name is repeated")
+        want(len(words) > 1, "letter without process")
+        job.letters.append((words[0], sorted({job.process_of(word) for word in words[1:]})))
+    elif first == b"states":
+        job.states = number(words[0])
+        want(1 <= job.states <= MOST_STATES, "states not in 1 to 32")
+    elif first == b"start":
+        job.start = job.state_of(words[0])
+    elif first == b"accept":
+        job.accepting = {job.state_of(word) for word in words}
+    elif first == b"row":
+        q, a, r = job.state_of(words[0]), job.letter_of(words[1]), job.state_of(words[2])
+        want(job.targets.get((q, a), r) == r, "two targets")
+        job.targets[q, a] = r
+    elif first == b"script":
+        p = job.process_of(words[0])
+        for word in words[1:]:
+            a = job.letter_of(word)
+            want(p in job.loc(a), "letter not of this process")
+            want(sum(map(len, job.scripts)) < MOST_SCRIPT_LETTERS, "more than 65536 script letters")
+            job.scripts[p].append(a)
+
+
+def take_line(job, place, text, whole):
+    """One line: the place after it."""
+    want(whole, "line is cut")
+    want(all(b == 9 or 32 <= b <= 126 for b in text), "bad byte")
+    words = [word for word in re.split(rb"[ \t]+", text) if word]
+    if not words:
+        return place
+    if place == 0:
+        want(words == [b"zla", b"1"], "header is not zla 1")
+    want(place < 8, "text after end")
+    first = words[0]
+    want(first in PLACES[place], "line is out of order")
+    want(len(words) == EXACTLY[first] if first in EXACTLY else len(words) >= AT_LEAST[first], "wrong number of words")
+    take(job, first, words[1:])
+    return PLACES[place][first]
+
+
+def read(text):
+    """The job that a document says. Refused names the first wrong line and its kind."""
+    pieces = text.split(b"\n")
+    lines = [(piece, True) for piece in pieces[:-1]] + ([(pieces[-1], False)] if pieces[-1] else [])
+    job, place = Job(), 0
+    for at, (piece, whole) in enumerate(lines):
+        try:
+            place = take_line(job, place, piece, whole)
+        except Wrong as kind:
+            raise Refused(at + 1, str(kind)) from None
+    if place < 8:
+        raise Refused(len(lines) + 1, "end is missing")
+    return job
+
+
+def printed(job):
+    """The printed form of a job."""
+    out = [[b"zla", b"1"], [b"processes", job.processes]]
+    out += [[b"letter", name] + procs for name, procs in job.letters]
+    out += [[b"states", job.states], [b"start", job.start], [b"accept"] + sorted(job.accepting)]
+    out += [[b"row", q, job.letters[a][0], job.targets[q, a]] for q, a in sorted(job.targets)]
+    out += [[b"script", p] + [job.letters[a][0] for a in script] for p, script in enumerate(job.scripts)]
+    out.append([b"end"])
+    return b"".join(b" ".join(w if isinstance(w, bytes) else b"%d" % w for w in words) + b"\n" for words in out)
+
+
+class Dfa:
+    """A complete table."""
+
+    def __init__(self, letters, start, accepting, targets):
+        self.letters, self.start, self.accepting, self.targets = letters, start, accepting, targets
+
+    def walk(self, q, word):
+        for a in word:
+            q = self.targets[q][a]
+        return q
+
+    def accepts(self, word):
+        return self.accepting[self.walk(self.start, word)]
+
+
+def completed(job):
+    """The job's DFA: where a row is missing, one rejecting state is added, and missing rows lead to it."""
+    m = len(job.letters)
+    whole = all((q, a) in job.targets for q in range(job.states) for a in range(m))
+    states = job.states if whole else job.states + 1
+    targets = [[job.targets.get((q, a), job.states) for a in range(m)] for q in range(states)]
+    return Dfa(m, job.start, [q in job.accepting for q in range(states)], targets)
+
+
+def least_words(first, step, letters):
+    """The shortlex-least word to each thing that is reached, in the order of these words."""
+    words, queue = {first: []}, deque([first])
+    while queue:
+        x = queue.popleft()
+        for a in range(letters):
+            y = step(x, a)
+            if y not in words:
+                words[y] = words[x] + [a]
+                queue.append(y)
+    return words
+
+
+def apart(dfa, q, r):
+    """The shortlex-least word that is accepted from exactly one of two states, or None."""
+    words = least_words((q, r), lambda x, a: (dfa.targets[x[0]][a], dfa.targets[x[1]][a]), dfa.letters)
+    for (x, y), word in words.items():
+        if dfa.accepting[x] != dfa.accepting[y]:
+            return word
+    return None
+
+
+def minimal(dfa):
+    """The minimal DFA, its states numbered by their shortlex-least access words."""
+    reached = list(least_words(dfa.start, lambda q, a: dfa.targets[q][a], dfa.letters))
+    leaders = []
+    number_of = {}
+    for q in reached:
+        for i, leader in enumerate(leaders):
+            if apart(dfa, q, leader) is None:
+                number_of[q] = i
+                break
+        else:
+            number_of[q] = len(leaders)
+            leaders.append(q)
+    targets = [[number_of[dfa.targets[q][a]] for a in range(dfa.letters)] for q in leaders]
+    return Dfa(dfa.letters, 0, [dfa.accepting[q] for q in leaders], targets)
+
+
+def least_break(job, dfa):
+    """The two words of the least break of the language, or None where it is trace-closed."""
+    for q, u in least_words(dfa.start, lambda x, a: dfa.targets[x][a], dfa.letters).items():
+        for a in range(dfa.letters):
+            for b in range(a + 1, dfa.letters):
+                if job.independent(a, b):
+                    v = apart(dfa, dfa.walk(q, [a, b]), dfa.walk(q, [b, a]))
+                    if v is not None:
+                        return u + [a, b] + v, u + [b, a] + v
+    return None
+
+
+def weave(job):
+    """The greedy word, and how many events of each process it has."""
+    done, word = [0] * job.processes, []
+    while True:
+        for a in range(len(job.letters)):
+            if all(done[p] < len(job.scripts[p]) and job.scripts[p][done[p]] == a for p in job.loc(a)):
+                break
+        else:
+            return word, done
+        word.append(a)
+        for p in job.loc(a):
+            done[p] += 1
+
+
+class Order:
+    """Pasts, entries and labels of the events of a word, by positions."""
+
+    def __init__(self, job, word):
+        self.job, self.word = job, word
+        self.pasts = []  # the past of each event
+        for i, a in enumerate(word):
+            past = {i}
+            for j in range(i - 1, -1, -1):
+                if any(set(job.loc(word[j])) & set(job.loc(word[k])) for k in past):
+                    past.add(j)
+            self.pasts.append(past)
+        self.labels = []
+        for i in range(len(word)):
+            self.labels.append(self.label(i))
+
+    def view(self, n, p):
+        mine = [i for i in range(n) if p in self.job.loc(self.word[i])]
+        return self.pasts[mine[-1]] if mine else set()
+
+    def latest(self, events, q):
+        return max((i for i in events if q in self.job.loc(self.word[i])), default=None)
+
+    def primary(self, n, p, q):
+        return self.latest(self.view(n, p), q)
+
+    def in_past(self, e, q):
+        return None if e is None else self.latest(self.pasts[e], q)
+
+    def label(self, i):
+        """The least that no tertiary entry with the letter has, at the least participant just before."""
+        processes = range(self.job.processes)
+        x = self.job.loc(self.word[i])[0]
+        taken = set()
+        for q in processes:
+            for r in processes:
+                e = self.in_past(self.primary(i, x, q), r)
+                for s in processes:
+                    f = self.in_past(e, s)
+                    if f is not None and self.word[f] == self.word[i]:
+                        taken.add(self.labels[f])
+        return min(k for k in range(len(taken) + 1) if k not in taken)
+
+    def shown(self, e):
+        return "-" if e is None else "%s.%d" % (self.job.name(self.word[e]), self.labels[e])
+
+
+def bound(job):
+    n = job.processes
+    return "bound labels %d records %d" % (len(job.letters) * (n**3 + 1), n + 1)
+
+
+def solo(job, dfa):
+    word, done = weave(job)
+    whole = all(done[p] == len(job.scripts[p]) for p in range(job.processes))
+    status = 3 if not whole else 0 if dfa.accepts(word) else 1
+    lines = [{0: "accept", 1: "reject", 3: "stuck"}[status], "fired %d" % len(word), bound(job)]
+    if not whole:
+        for p, script in enumerate(job.scripts):
+            rest = "ended" if done[p] == len(script) else "waits " + job.name(script[done[p]])
+            lines.append("process %d fired %d %s" % (p, done[p], rest))
+        lines.append(" ".join(["trace"] + [job.name(a) for a in word]))
+    return status, lines
+
+
+def check(job, dfa):
+    return 0, ["closed", "states %d" % len(dfa.targets), bound(job)]
+
+
+def local_states(job, dfa):
+    word, _ = weave(job)
+    order, n, lines = Order(job, word), len(word), []
+    for p in range(job.processes):
+        entries = [order.shown(order.primary(n, p, q)) for q in range(job.processes)]
+        view = dfa.walk(dfa.start, [word[i] for i in sorted(order.view(n, p))])
+        lines.append(" ".join(["p%d" % p] + entries + ["view %d" % view]))
+    return 0, lines
+
+
+COMMANDS = {"solo": solo, "check": check, "locals": local_states}
+
+
+def answer(command, text):
+    """The status and the text of a command on a document."""
+    if len(text) > MOST_BYTES:
+        return 9, b"refused: more than 1048576 bytes\n"
+    try:
+        job = read(text)
+    except Refused as refused:
+        return 4, ("%s\n" % refused).encode()
+    dfa = minimal(completed(job))
+    two = least_break(job, dfa)
+    if two is None:
+        status, lines = COMMANDS[command](job, dfa)
+    else:
+        left, right = (" ".join(job.name(a) for a in word) for word in two)
+        status, lines = 5, ["not closed", "left " + left, "right " + right]
+    return status, "".join(line + "\n" for line in lines).encode()
