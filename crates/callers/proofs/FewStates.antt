@@ -6,7 +6,8 @@ use Rattle.std.proofs.lemmas.Bool.{cases_eq}
 use Rattle.std.proofs.lemmas.Bool.Decides.{nat_tests}
 use Rattle.std.proofs.lemmas.List.FromFn.{length-map-range_with_len}
 use Rattle.std.proofs.lemmas.List.Elements.{All-append}
-use Rattle.za_alpha.specs.Words.{IsWord, least}
+use Rattle.za_alpha.specs.Words.{IsWord}
+use Rattle.za_alpha.specs.Search.{least}
 use Rattle.za_alpha.proofs.Least.{least-true, least-le}
 use Rattle.za_alpha.proofs.Members.{has-range-below}
 use Rattle.za_dfa.specs.Automata.{Automaton, IsTotal, walk, is_accepted}

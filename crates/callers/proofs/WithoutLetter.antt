@@ -1,20 +1,22 @@
 -- The automaton of the words without a letter.
-use Rattle.std.proofs.Common.{◌≡◌, ◌≢◌, ℕ, zero, suc, ◌+◌, ◌<◌, ◌==◌, ◌&&◌, Bool, true, false, not, cond, List, [], ◌∷◌, ◌++◌, length, Option, Some, None, Result, Ok, Err, refl, sym, ap, subst, ◌∙◌, inl, inr, arith}
+use Rattle.std.proofs.Common.{◌≡◌, ◌≢◌, ℕ, zero, suc, ◌+◌, ◌*◌, ◌/◌, ◌%◌, ◌<◌, ◌==◌, ◌&&◌, Bool, true, false, not, cond, List, [], ◌∷◌, ◌++◌, length, Option, Some, None, Result, Ok, Err, refl, sym, ap, subst, ◌∙◌, inl, inr, arith}
 use Rattle.std.specs.Prelude.{nat_lt, IfOk, MatchResult, slice_index_or, is_some, unwrap_or}
-use Rattle.std.specs.List.{list_all, range_with_len}
 use Rattle.std.specs.Option.{option_or}
 use Rattle.std.proofs.lemmas.Bool.{cases_Bool, cases_eq}
 use Rattle.std.proofs.lemmas.Bool.Decides.{nat_tests}
+use Rattle.std.proofs.lemmas.List.{get_or_past}
 use Rattle.std.proofs.lemmas.List.Elements.{All-head, All-tail}
+use Rattle.std.proofs.lemmas.List.Folds.{list_all_at}
+use Rattle.std.proofs.lemmas.List.FromFn.{length-map-range_with_len}
 use Rattle.za_alpha.specs.Words.{has, IsWord}
 use Rattle.za_alpha.specs.Alphabet.{DistributedAlphabet}
 use Rattle.za_dfa.specs.declared.rows.Row.{Row}
 use Rattle.za_dfa.specs.Automata.{walk, is_accepted}
 use Rattle.za_dfa.specs.Tables.{CompleteDfa, automaton_of, step_of, accepts_at}
-use Rattle.za_dfa.specs.Rows.{is_at, target_in, is_whole, completed_states, completed}
-use Rattle.za_dfa.proofs.CellLemmas.{target_in-more}
-use Rattle.za_dfa.proofs.GridLemmas.{range_elim}
-use Rattle.za_dfa.proofs.TableLemmas.{step_of_completed}
+use Rattle.za_dfa.specs.Partials.{PartialDfa, target_of, is_whole}
+use Rattle.za_dfa.specs.Rows.{is_at, target_in, cells_of, partial_of, completed}
+use Rattle.za_dfa.proofs.EnteredLemmas.{target_in-more, cell_at}
+use Rattle.za_dfa.proofs.Completing.{step_of_completion}
 
 -- the target of a state and a letter below i, where the letter a has none
 abbrev pub target : ℕ → ℕ → ℕ → ℕ → Option ℕ
@@ -48,23 +50,30 @@ module _ (alphabet : DistributedAlphabet) (rows : List Row) (a : ℕ) (letter : 
   abbrev pub d : CompleteDfa
   d = completed alphabet 1 0 (true ∷ []) rows
 
-  -- the letter a has no row
-  partial : is_whole 1 m rows ≡ false
-  partial =
-      elim (cases_Bool (is_whole 1 m rows)) [
-        | inl t ↦
-            let row = range_elim (λ q. list_all (λ b. is_some (target_in rows q b)) (range_with_len 0 m)) 1 0 t (omega arith) in
-            let there = range_elim (λ b. is_some (target_in rows 0 b)) m a row letter in
-            let none : target_in rows 0 a ≡ None = targets 0 a ∙ grind (arith, nat_tests) in
-            absurd (let e : true ≡ false = sym there ∙ ap is_some none in cc)
-        | inr f ↦ f
-      ]
+  abbrev pub t : PartialDfa
+  t = partial_of alphabet 1 0 (true ∷ []) rows
 
-  states : completed_states 1 m rows ≡ 2
+  size : length (cells_of 1 m rows) ≡ 1 * m
+  size = length-map-range_with_len (λ i. target_in rows (i / m) (i % m)) 0 (1 * m)
+
+  -- the letter a has no row
+  partial : is_whole t ≡ false
+  partial =
+      let none : target_in rows 0 a ≡ None = targets 0 a ∙ grind (arith, nat_tests) in
+      let inside : 0 * m + a < length (cells_of 1 m rows) = let long = size in omega arith in
+      list_all_at is_some (cells_of 1 m rows) (0 * m + a) None inside (ap is_some (cell_at 1 m rows 0 a (omega arith) letter ∙ none))
+
+  states : d.states ≡ 2
   states = ap (λ whole. cond whole 1 2) partial
 
+  -- where a letter leads, from the state and from the added one
+  cell : (q b : ℕ) → q < 2 → b < m → target_of t q b ≡ target a m q b
+  cell zero b hq hb = cell_at 1 m rows 0 b (omega arith) hb ∙ targets 0 b
+  cell (suc zero) b hq hb = (let long = size in get_or_past (cells_of 1 m rows) (1 * m + b) None (omega arith)) ∙ grind (arith, nat_tests)
+  cell (suc (suc q)) b hq hb = absurd (omega arith)
+
   step : (q b : ℕ) → q < 2 → b < m → step_of d q b ≡ unwrap_or (target a m q b) 1
-  step q b hq hb = step_of_completed alphabet 1 0 (true ∷ []) rows q b (subst (λ n. q < n) (sym states) hq) hb ∙ ap (λ t. unwrap_or t 1) (targets q b)
+  step q b hq hb = step_of_completion t q b size (subst (λ n. q < n) (sym states) hq) hb ∙ ap (λ o. unwrap_or o 1) (cell q b hq hb)
 
   -- the added state is never left
   walk-added : (w : List ℕ) → IsWord m w → walk (step_of d) 1 w ≡ 1

@@ -3,10 +3,10 @@
 ghost use Rattle.std.specs.Prelude.{◌≡◌, ◌<◌, None, length, IfOk, IfErr, MatchOption, MatchResult};
 ghost use Rattle.za_alpha.specs.Alphabet.{loc_of};
 ghost use Rattle.za_dfa.specs.Diamonds.{BreaksDiamond};
+ghost use Rattle.za_dfa.specs.Partials.{completion};
 ghost use Rattle.za_dfa.specs.Tables.{automaton_of};
 ghost use Rattle.za_script.specs.Answer.{IsAnswer};
 ghost use Rattle.za_script.specs.ScriptLists.{script_of};
-ghost use Rattle.za_lang.specs.Langs.{completion};
 ghost use Rattle.za_lang.specs.Answers.{IsRefused};
 ghost use Rattle.za_lang.specs.Documents.{fault_of, job_of};
 ghost use Rattle.za_print.specs.Printed.{printed};
@@ -38,7 +38,7 @@ pub fn normal_form(alloc: Global, bytes: &[u8]) -> Result<Vec<u8>, JobFault>
 
 /// The answer of a document's language to its scripts, and `None` exactly where its automaton, with
 /// the missing rows completed, has two independent letters whose order decides the state.
-pub fn answer_of(alloc: Global, bytes: &[u8]) -> Result<Option<Answer>, JobFault>
+pub fn document_answer(alloc: Global, bytes: &[u8]) -> Result<Option<Answer>, JobFault>
     requires { length bytes.now < 4294967295 }
     ensures answer { IfOk result (λ said. let d = completion (job_of bytes.now).lang in
         MatchOption said

@@ -5,6 +5,7 @@
 pub mod alphabets;
 pub mod automata;
 pub mod closure;
+pub mod distributed;
 pub mod documents;
 pub mod gossip;
 pub mod locals;

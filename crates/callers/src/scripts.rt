@@ -9,7 +9,7 @@ ghost use Rattle.za_script.specs.ScriptLists.{script_of, FitAlphabet};
 use std::alloc::Global;
 use za_alpha::OutOfMemory;
 use za_dfa::{Closed, diamonds_close_the_language};
-use za_script::{Answer, Scripts, answer_is_of_the_weave, weave, weaving_is_confluent};
+use za_script::{Answer, Scripts, answer_is_of_the_weave, answer_of, weave, weaving_is_confluent};
 
 /// The answer of an automaton to scripts, which speaks of all words that weave them. One of these
 /// words is woven and run.
@@ -24,11 +24,5 @@ pub fn answer(alloc: Global, closed: &Closed, scripts: &Scripts) -> Result<Answe
     let dfa = closed.dfa();
     let _states = dfa.states();
     let woven = weave(alloc, dfa.alphabet(), scripts)?;
-    if !woven.whole() {
-        Ok(Answer::Stuck)
-    } else if dfa.accepts(woven.word()) {
-        Ok(Answer::Accept)
-    } else {
-        Ok(Answer::Reject)
-    }
+    Ok(answer_of(dfa, &woven))
 }

@@ -1,7 +1,8 @@
 use crate::alphabets::may_swap;
 use crate::automata::{accepts_trace, without};
 use crate::closure::told_apart;
-use crate::documents::{answer_of, normal_form};
+use crate::distributed::can_be_distributed;
+use crate::documents::{document_answer, normal_form};
 use crate::gossip::after_first;
 use crate::locals;
 use crate::minimal::{difference, states_needed};
@@ -204,10 +205,12 @@ fn words_that_a_language_tells_apart(rt: HostRuntime) -> Result<(), Fail> {
     let alloc = rt.alloc();
     let closed = without_b(&rt, alloc, two(alloc)?)?;
     assert!(rt; told_apart(alloc, closed.dfa())?.is_none());
+    assert!(rt; can_be_distributed(alloc, closed.dfa())?);
     let dfa = ends_in_b(&rt, alloc, two(alloc)?)?;
     let pair = told_apart(alloc, &dfa)?.ok_or("closed")?;
     assert_eq!(rt; pair.accepted.letters(), [Letter(0), Letter(1)].as_slice());
     assert_eq!(rt; pair.rejected.letters(), [Letter(1), Letter(0)].as_slice());
+    assert!(rt; !can_be_distributed(alloc, &dfa)?);
     Ok(())
 }
 
@@ -275,7 +278,7 @@ fn documents_are_answered_and_printed(rt: HostRuntime) -> Result<(), Fail> {
     ] {
         let text = document(alloc, tail)?;
         assert!(rt; text.len() < 4294967295);
-        assert_eq!(rt; answer_of(alloc, text.as_slice()), answer);
+        assert_eq!(rt; document_answer(alloc, text.as_slice()), answer);
         let form = normal_form(alloc, text.as_slice()).ok();
         let wanted = document(alloc, printed.unwrap_or(b""))?;
         match form {

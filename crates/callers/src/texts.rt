@@ -2,7 +2,7 @@
 
 ghost use Rattle.std.specs.Prelude.{◌≡◌, ◌<◌, ◌∷◌, [], List, ℕ, None, Some, length, MatchOption};
 ghost use Rattle.za_text.specs.Lines.{lines_of};
-ghost use Rattle.za_text.specs.Numbers.{number_of};
+ghost use Rattle.za_text.specs.Numbers.{numeral_value};
 ghost use Rattle.za_text.specs.Words.{words_of};
 
 use za_text::{Line, Lines, number};
@@ -20,8 +20,8 @@ pub fn line_count(bytes: &[u8]) -> u32
 /// The number that stands alone on a line, and `None` exactly where none does.
 pub fn only_number(line: &Line) -> Option<u32>
     ensures { MatchOption result
-        ((word : List ℕ) → words_of line.now.text.now ≡ word ∷ [] → number_of word ≡ None)
-        (λ n. (word : List ℕ) × (words_of line.now.text.now ≡ word ∷ []) × (number_of word ≡ Some n)) }
+        ((word : List ℕ) → words_of line.now.text.now ≡ word ∷ [] → numeral_value word ≡ None)
+        (λ n. (word : List ℕ) × (words_of line.now.text.now ≡ word ∷ []) × (numeral_value word ≡ Some n)) }
 {
     let mut words = line.words();
     let first = words.next()?;

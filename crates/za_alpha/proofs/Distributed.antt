@@ -11,8 +11,9 @@ use Rattle.std.proofs.lemmas.Nat.{one_shl, or_lt, pow_below}
 use Rattle.std.proofs.lemmas.Slice.Eq.{bytes_eq-Decides}
 use Rattle.za_alpha.specs.declared.procs.Procs.{Procs}
 use Rattle.za_alpha.specs.declared.alphabet.LetterRow.{LetterRow}
+use Rattle.za_alpha.specs.Limits.{most_processes}
 use Rattle.za_alpha.specs.Words.{has}
-use Rattle.za_alpha.specs.Names.{is_name}
+use Rattle.za_names.specs.Names.{is_name}
 use Rattle.za_alpha.specs.Procs.{members, no_process, with_process}
 use Rattle.za_alpha.specs.Rows.{letter_fault, letters_fault, alphabet_fault, set_of, letter_of_row, alphabet_of_rows}
 use Rattle.za_alpha.specs.Alphabet.{IsDistributed, procs_at, name_at}
@@ -58,7 +59,7 @@ pub has-set_of : (ps : List ℕ) (q : ℕ) → ((p : ℕ) → has ps p ≡ true 
 has-set_of ps q small = has-fold no_process ps q small ∙ ap (λ (xs : List ℕ). has ps q || has xs q) members-zero ∙ or-none (has ps q)
 
 -- processes of which none is from n on are below n
-below_of_none : (n : ℕ) (ps : List ℕ) → list_any (λ p. nat_le n p) ps ≡ false → (p : ℕ) → has ps p ≡ true → p < n
+pub below_of_none : (n : ℕ) (ps : List ℕ) → list_any (λ p. nat_le n p) ps ≡ false → (p : ℕ) → has ps p ≡ true → p < n
 below_of_none n [] none p h = absurd (cc)
 below_of_none n (q ∷ ps) none p h =
     elim (cases_Bool (nat_le n q)) [
@@ -132,7 +133,7 @@ apart_below n before (row ∷ rows) none (suc a) (suc b) l h e =
     let parts = none_of_or (letter_fault n before row) (letters_fault n (before ++ row ∷ []) rows) none in
     apart_below n (before ++ row ∷ []) rows parts.1 a b (omega arith) (omega arith) e
 
-first_process : (ps : List ℕ) → eqb (length ps) 0 ≡ false → (p : ℕ) × (has ps p ≡ true)
+pub first_process : (ps : List ℕ) → eqb (length ps) 0 ≡ false → (p : ℕ) × (has ps p ≡ true)
 first_process [] h = absurd (cc)
 first_process (p ∷ ps) h = (p, or_left (p == p) (has ps p) (eq-eqb p p refl))
 
@@ -142,7 +143,7 @@ distributed_of_rows n rows none =
     let right = right_alphabet n rows none in
     let size : length (map letter_of_row rows) ≡ length rows = length-map rows letter_of_row in
     let small : (a : ℕ) (r : RowAt n rows a) (p : ℕ) → has r.row.procs.items p ≡ true → p < n = λ a r p h. below_of_none n r.row.procs.items r.right.there p h in
-    let few : n ≤ 6 = right.few_processes in
+    let few : n ≤ most_processes = right.few_processes in
     let members_at : (a : ℕ) (r : RowAt n rows a) (p : ℕ) → has (members (procs_at (map letter_of_row rows) a)) p ≡ has r.row.procs.items p =
     λ a r p. ap (λ (s : Procs). has (members s) p) r.loc ∙ has-set_of r.row.procs.items p (λ q h. let low : q < n = small a r q h in omega arith) in
     record {

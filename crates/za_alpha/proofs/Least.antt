@@ -1,7 +1,7 @@
 -- The least number that passes a test.
 use Rattle.std.proofs.Common.{◌≡◌, ℕ, zero, suc, ◌<◌, ◌≤◌, Bool, true, false, inl, inr, refl, sym, ◌∙◌, arith}
 use Rattle.std.proofs.lemmas.Bool.{cond_both, cases_Bool, cond-true, cond-false, cases_lt}
-use Rattle.za_alpha.specs.Words.{least}
+use Rattle.za_alpha.specs.Search.{least}
 
 -- where the least number is found, it passes the test
 pub least-true : (test : ℕ → Bool) (n : ℕ) → least test n < n → test (least test n) ≡ true

@@ -5,3 +5,5 @@ pub mod Distributed
 pub mod Projections
 pub mod RoundTrip
 pub mod Least
+pub mod Indexed
+pub mod Growing

@@ -11,8 +11,9 @@ use Rattle.std.proofs.lemmas.List.{get_or_append_left}
 use Rattle.std.proofs.lemmas.Slice.Eq.{bytes_eq-Decides}
 use Rattle.za_alpha.specs.declared.procs.Procs.{Procs}
 use Rattle.za_alpha.specs.declared.alphabet.LetterRow.{LetterRow}
+use Rattle.za_alpha.specs.Limits.{most_processes, most_letters}
 use Rattle.za_alpha.specs.Words.{has}
-use Rattle.za_alpha.specs.Names.{is_name}
+use Rattle.za_names.specs.Names.{is_name}
 use Rattle.za_alpha.specs.Procs.{members, no_process}
 use Rattle.za_alpha.specs.Rows.{letter_fault, letters_fault, alphabet_fault, set_of, letter_of_row, alphabet_of_rows}
 use Rattle.za_alpha.specs.Alphabet.{DistributedAlphabet, NamedLetter, IsDistributed, procs_at, name_at}
@@ -59,7 +60,7 @@ not_empty : (ps : List ℕ) (p : ℕ) → has ps p ≡ true → eqb (length ps) 
 not_empty [] p h = absurd (cc)
 not_empty (q ∷ ps) p h = grind (arith, nat_tests)
 
-small_member : (s : Procs) (p : ℕ) → has (members s) p ≡ true → p < 16
+pub small_member : (s : Procs) (p : ℕ) → has (members s) p ≡ true → p < 16
 small_member s p h = let low : nat_lt p 16 ≡ true = (and_parts (eqb (bit_at s.0 p) 1) (nat_lt p 16) (sym (has-members s p) ∙ h)).1 in grind (arith, nat_tests)
 
 -- the set of the members of a set is the set
@@ -115,8 +116,8 @@ module _ (alphabet : DistributedAlphabet) (whole : IsDistributed alphabet) where
   pub rows_make : (rows : List LetterRow) → SayAll rows alphabet.letters → (alphabet_fault alphabet.processes rows ≡ None) × (alphabet_of_rows alphabet.processes rows ≡ alphabet)
   rows_make rows h =
       let n = alphabet.processes in
-      let counted : not (nat_le 1 n && nat_le n 6) ≡ false = in_range n 6 0 (let k = whole.some_process in omega arith) whole.few_processes in
-      let many : not (nat_le 1 (length rows) && nat_le (length rows) 32) ≡ false =
-      in_range (length rows) 32 0 (let k = whole.some_letter in omega (arith, h.size)) (let k = whole.few_letters in omega (arith, h.size)) in
+      let counted : not (nat_le 1 n && nat_le n most_processes) ≡ false = in_range n most_processes 0 (let k = whole.some_process in omega arith) whole.few_processes in
+      let many : not (nat_le 1 (length rows) && nat_le (length rows) most_letters) ≡ false =
+      in_range (length rows) most_letters 0 (let k = whole.some_letter in omega (arith, h.size)) (let k = whole.few_letters in omega (arith, h.size)) in
       let made : List NamedLetter → DistributedAlphabet = λ ls. record { processes = n; letters = ls } in
       (rw (counted, many) (none_from [] rows h), ap made (letters_said rows alphabet.letters h whole.small))

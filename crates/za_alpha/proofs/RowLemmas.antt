@@ -1,17 +1,18 @@
 -- What follows where rows have no fault, and of a letter's place.
-use Rattle.std.proofs.Common.{◌≡◌, ℕ, zero, suc, ◌<◌, ◌≤◌, Bool, true, false, ◌||◌, ◌&&◌, eqb, cond, not, List, [], ◌∷◌, ◌++◌, length, get_or, map, Option, Some, None, refl, arith}
-use Rattle.std.specs.Prelude.{All, nat_le}
+use Rattle.std.proofs.Common.{◌≡◌, ℕ, zero, suc, ◌<◌, ◌≤◌, Bool, true, false, ◌||◌, ◌&&◌, eqb, cond, not, List, [], ◌∷◌, length, get_or, map, Option, Some, None, refl, arith}
+use Rattle.std.specs.Prelude.{nat_le}
 use Rattle.std.specs.List.{list_any, AllByRecursion}
 use Rattle.std.specs.Option.{option_or}
-use Rattle.std.proofs.lemmas.List.Elements.{All-from_recursion}
 use Rattle.std.proofs.lemmas.Bool.{leb-false}
 use Rattle.std.proofs.lemmas.Bool.Decides.{nat_tests}
 use Rattle.std.specs.Str.{bytes_eq}
 use Rattle.za_alpha.specs.declared.alphabet.LetterRow.{LetterRow}
-use Rattle.za_alpha.specs.declared.alphabet.Entry.{Entry}
-use Rattle.za_alpha.specs.Names.{is_name}
-use Rattle.za_alpha.specs.Rows.{letter_fault, letters_fault, alphabet_fault, HasSmallProcesses}
-use Rattle.za_alpha.specs.Alphabet.{procs_at, name_at, letter_of_entry}
+use Rattle.za_alpha.specs.declared.letters.Entry.{Entry}
+use Rattle.za_names.specs.Names.{is_name}
+use Rattle.za_alpha.specs.Limits.{most_processes, most_letters}
+use Rattle.za_alpha.specs.Rows.{letter_fault, letters_fault, alphabet_fault}
+use Rattle.za_alpha.specs.Alphabet.{procs_at, name_at}
+use Rattle.za_alpha.specs.Private.Begun.{letter_of_entry}
 
 -- an if-chain gives none exactly where each test fails
 pub none_of_cond : {X : Type 0} (b : Bool) (x : X) (r : Option X) → cond b (Some x) r ≡ None → (b ≡ false) × (r ≡ None)
@@ -40,7 +41,7 @@ pub record IsRightRow (n : ℕ) (before : List LetterRow) (row : LetterRow) : Ty
   pub some : eqb (length row.procs.items) 0 ≡ false
   pub there : list_any (λ p. nat_le n p) row.procs.items ≡ false
 
-not_false : (b : Bool) → not b ≡ false → b ≡ true
+pub not_false : (b : Bool) → not b ≡ false → b ≡ true
 not_false true h = refl
 not_false false h = absurd (cc)
 
@@ -53,27 +54,20 @@ right_row n before row none =
     let there = none_of_cond (list_any (λ p. nat_le n p) row.procs.items) _ _ some.1 in
     record { named = not_false (is_name row.name.items) named.0; fresh = fresh.0; some = some.0; there = there.0 }
 
-rows_small : (n : ℕ) (before rows : List LetterRow) → n ≤ 16 → letters_fault n before rows ≡ None → AllByRecursion HasSmallProcesses rows
-rows_small n before [] h none = tt
-rows_small n before (row ∷ rows) h none =
-    let parts = none_of_or (letter_fault n before row) (letters_fault n (before ++ row ∷ []) rows) none in
-    let small = below_of_any n row.procs.items h (right_row n before row parts.0).there in
-    (All-from_recursion (λ p. p < 16) row.procs.items small, rows_small n (before ++ row ∷ []) rows h parts.1)
-
 -- the numbers of processes and letters are right, and each row
 pub record IsRightAlphabet (n : ℕ) (rows : List LetterRow) : Type 0 where
   pub some_process : 1 ≤ n
-  pub few_processes : n ≤ 6
+  pub few_processes : n ≤ most_processes
   pub some_letter : 1 ≤ length rows
-  pub few_letters : length rows ≤ 32
+  pub few_letters : length rows ≤ most_letters
   pub rows_right : letters_fault n [] rows ≡ None
 
 pub right_alphabet : (n : ℕ) (rows : List LetterRow) → alphabet_fault n rows ≡ None → IsRightAlphabet n rows
 right_alphabet n rows none =
-    let counted = none_of_cond (not (nat_le 1 n && nat_le n 6)) _ _ none in
-    let many = none_of_cond (not (nat_le 1 (length rows) && nat_le (length rows) 32)) _ _ counted.1 in
-    let a : (nat_le 1 n && nat_le n 6) ≡ true = not_false (nat_le 1 n && nat_le n 6) counted.0 in
-    let b : (nat_le 1 (length rows) && nat_le (length rows) 32) ≡ true = not_false (nat_le 1 (length rows) && nat_le (length rows) 32) many.0 in
+    let counted = none_of_cond (not (nat_le 1 n && nat_le n most_processes)) _ _ none in
+    let many = none_of_cond (not (nat_le 1 (length rows) && nat_le (length rows) most_letters)) _ _ counted.1 in
+    let a : (nat_le 1 n && nat_le n most_processes) ≡ true = not_false (nat_le 1 n && nat_le n most_processes) counted.0 in
+    let b : (nat_le 1 (length rows) && nat_le (length rows) most_letters) ≡ true = not_false (nat_le 1 (length rows) && nat_le (length rows) most_letters) many.0 in
     record {
       some_process = grind (arith, nat_tests);
       few_processes = grind (arith, nat_tests);
@@ -81,13 +75,6 @@ right_alphabet n rows none =
       few_letters = grind (arith, nat_tests);
       rows_right = many.1;
     }
-
--- where there is no fault, each row's processes are small
-pub small_of_no_fault : (n : ℕ) (rows : List LetterRow) → alphabet_fault n rows ≡ None → All HasSmallProcesses rows
-small_of_no_fault n rows none =
-    let right = right_alphabet n rows none in
-    let few : n ≤ 16 = let f = right.few_processes in omega arith in
-    All-from_recursion HasSmallProcesses rows (rows_small n [] rows few right.rows_right)
 
 -- the processes of the letter at a place
 pub procs_at-map : (es : List Entry) (i : ℕ) (d : Entry) → i < length es → procs_at (map letter_of_entry es) i ≡ (get_or es i d).loc

@@ -1,14 +1,12 @@
 -- What contracts see of an alphabet, and the alphabet that rows say.
-use Rattle.std.specs.Prelude.{◌≡◌, ℕ, zero, suc, ◌<◌, ◌≤◌, ◌^◌, IsTrue, List, [], ◌∷◌, length, map, Option}
+use Rattle.std.specs.Prelude.{◌≡◌, ℕ, zero, suc, ◌<◌, ◌≤◌, ◌^◌, IsTrue, List, [], ◌∷◌, length, Option}
 use Rattle.std.specs.List.{position_from}
 use Rattle.std.specs.Str.{bytes_eq}
 use Rattle.za_alpha.specs.declared.procs.Procs.{Procs}
-use Rattle.za_alpha.specs.declared.alphabet.Entry.{Entry}
-use Rattle.za_alpha.specs.declared.alphabet.Alphabet.TheInside.{Inside}
-use Rattle.za_alpha.specs.declared.rows.TheConstants.{MOST_PROCESSES, MOST_LETTERS}
+use Rattle.za_alpha.specs.Limits.{most_processes, most_letters}
 use Rattle.za_alpha.specs.Procs.{members, no_process}
 use Rattle.za_alpha.specs.Words.{IsAlphabet}
-use Rattle.za_alpha.specs.Names.{is_name}
+use Rattle.za_names.specs.Names.{is_name}
 
 -- a letter: its name, and its processes
 pub record NamedLetter : Type 0 where
@@ -43,20 +41,11 @@ place_of letters name = position_from (λ (l : NamedLetter). bytes_eq l.name nam
 -- what holds of each alphabet: the limits, names that are names and tell letters apart, and processes
 pub record IsDistributed (alphabet : DistributedAlphabet) : Type 0 where
   pub some_process : 0 < alphabet.processes
-  pub few_processes : alphabet.processes ≤ MOST_PROCESSES
+  pub few_processes : alphabet.processes ≤ most_processes
   pub some_letter : 0 < length alphabet.letters
-  pub few_letters : length alphabet.letters ≤ MOST_LETTERS
+  pub few_letters : length alphabet.letters ≤ most_letters
   pub names : (a : ℕ) → a < length alphabet.letters → IsTrue (is_name (name_at alphabet.letters a))
-  pub apart : (a b : ℕ) → a < length alphabet.letters → b < length alphabet.letters → name_at alphabet.letters a ≡ name_at alphabet.letters b → a ≡ b
+  pub apart : (a b : ℕ) → a < length alphabet.letters → b < length alphabet.letters →
+      name_at alphabet.letters a ≡ name_at alphabet.letters b → a ≡ b
   pub small : (a : ℕ) → a < length alphabet.letters → (procs_at alphabet.letters a).0 < 2 ^ 16
   pub located : IsAlphabet (loc_of alphabet) (length alphabet.letters) alphabet.processes
-
--- an entry as a letter, wherever its name lies in memory
-abbrev pub letter_of_entry : Entry → NamedLetter
-letter_of_entry e = record { name = e.name.items; loc = e.loc }
-
-abbrev pub alphabet_of : Inside → DistributedAlphabet
-alphabet_of inside = record { processes = inside.processes; letters = map letter_of_entry inside.entries.items }
-
-abbrev pub IsDistributedInside : Inside → Type 0
-IsDistributedInside inside = IsDistributed (alphabet_of inside)

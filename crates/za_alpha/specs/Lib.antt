@@ -1,7 +1,11 @@
+pub mod Limits
 pub mod Words
+pub mod Search
 pub mod Procs
-pub mod Names
+pub use Rattle.za_names.specs.Names
 pub mod Letters
 pub mod Alphabet
+pub mod NewNames
 pub mod Rows
 pub mod Laws
+pub mod Private

@@ -1,6 +1,6 @@
 -- Words over a distributed alphabet, and trace equivalence (Zielonka 1987). A letter is a number, a set
 -- of processes is a list of numbers, and `loc a` are the processes of the letter a.
-use Rattle.std.specs.Prelude.{◌≡◌, ℕ, zero, suc, ◌<◌, Bool, not, List, ◌∷◌, ◌++◌, ◌==◌, IsTrue, filter, if◌then◌else◌}
+use Rattle.std.specs.Prelude.{◌≡◌, ℕ, ◌<◌, Bool, not, List, ◌∷◌, ◌++◌, ◌==◌, IsTrue, filter}
 use Rattle.std.specs.List.{list_any, All}
 
 -- whether the process is in the set
@@ -46,8 +46,3 @@ pub record IsSwap (loc : ℕ → List ℕ) (u v : List ℕ) : Type 0 where
 pub data Swaps (loc : ℕ → List ℕ) : List ℕ → List ℕ → Type 0 where
   Done : {u : List ℕ} → Swaps loc u u
   Then : {u v w : List ℕ} → IsSwap loc u v → Swaps loc v w → Swaps loc u w
-
--- the least number below n that passes the test, and n where none does
-abbrev pub least : (ℕ → Bool) → ℕ → ℕ
-least test zero = 0
-least test (suc n) = if test 0 then 0 else suc (least (λ k. test (suc k)) n)

@@ -1,12 +1,14 @@
-ghost use Rattle.std.specs.Prelude.{◌≡◌, ℕ, ◌≤◌, ◌<◌, ◌↔◌, length, drop, slice_index, None, IsTrue, IfOk, MatchResult, unwrap_or, option_map};
+ghost use Rattle.std.specs.Prelude.{◌≡◌, ℕ, ◌≤◌, ◌<◌, ◌↔◌, length, drop, slice_index};
+ghost use Rattle.std.specs.Prelude.{None, IsTrue, IfOk, MatchResult, unwrap_or, option_map};
 ghost use Rattle.za_alpha.specs.Words.{has, independent, projection, IsWord, AreEquivalent};
 ghost use Rattle.za_alpha.specs.Letters.{numbers};
 ghost use Rattle.za_alpha.specs.Rows.{alphabet_fault, alphabet_of_rows};
 ghost use Rattle.za_alpha.specs.Alphabet.{loc_of, name_at, place_of, procs_at, IsDistributed};
 
 use crate::fault::{AlphaFault, OutOfMemory};
+use crate::letters::Letters;
 use crate::procs::Procs;
-use crate::rows::{are_below, copies_of, entries_of, fault_of, name_in, place_in};
+use crate::rows::{add_row, are_below, fault_of};
 use crate::word::{Letter, Word};
 use std::alloc::Global;
 use std::marker::Model;
@@ -18,29 +20,22 @@ pub struct LetterRow {
     pub procs: Vec<u32>,
 }
 
-/// A letter's name, and its processes.
-#[derive(Debug, Drop)]
-pub(crate) struct Entry {
-    pub(crate) name: Vec<u8>,
-    pub(crate) loc: Procs,
-}
-
-/// A distributed alphabet: 1 to 6 processes, and 1 to 32 letters that each belong to some of them
+/// A distributed alphabet: 1 to 10 processes, and 1 to 128 letters that each belong to some of them
 /// (Zielonka 1987).
 #[derive(Debug, Drop)]
 pub struct Alphabet {
-    processes: usize,
-    entries: Vec<Entry>,
+    letters: Letters,
 }
 
 impl Model for Alphabet {
-    ghost use Rattle.za_alpha.specs.Alphabet.{DistributedAlphabet, alphabet_of, IsDistributedInside};
+    ghost use Rattle.za_alpha.specs.Alphabet.{DistributedAlphabet};
+    ghost use Rattle.za_alpha.specs.Private.Whole.{alphabet_of, IsWhole};
 
     ghost Value = { DistributedAlphabet };
 
     ghost view = { alphabet_of };
 
-    ghost invariant = { IsDistributedInside };
+    ghost invariant = { IsWhole };
 }
 
 impl Alphabet {
@@ -54,27 +49,35 @@ impl Alphabet {
         if let Some(fault) = fault_of(n, rows.as_slice()) {
             return Err(fault);
         }
-        let entries = entries_of(alloc, rows)?;
-        Ok(Alphabet {
-            processes: n,
-            entries,
-        })
+        let mut letters = Letters::new(alloc, n);
+        for row in rows {
+            add_row(&mut letters, row)?;
+        }
+        Ok(letters.into_alphabet())
     }
 
-    /// How many processes there are, 1 to 6.
+    /// The alphabet of these letters.
+    pub(crate) fn of_letters(letters: Letters) -> Alphabet
+        requires { 0 < length letters.letters }
+        ensures { result ≡ letters }
+    {
+        Alphabet { letters }
+    }
+
+    /// How many processes there are, 1 to 10.
     pub fn processes(&self) -> usize
         ensures value { result ≡ self.now.processes }
         ensures whole { IsDistributed self.now }
     {
-        self.processes
+        self.letters.processes()
     }
 
-    /// How many letters there are, 1 to 32.
+    /// How many letters there are, 1 to 128.
     pub fn letters(&self) -> usize
         ensures value { result ≡ length self.now.letters }
         ensures whole { IsDistributed self.now }
     {
-        self.entries.len()
+        self.letters.len()
     }
 
     /// A letter's name.
@@ -82,18 +85,15 @@ impl Alphabet {
         requires { a.0 < length self.now.letters }
         ensures { result.now ≡ name_at self.now.letters a.0 }
     {
-        name_in(self.entries.as_slice(), a)
+        self.letters.name(a)
     }
 
-    /// The letter of a name, and `None` exactly where no letter has it. It compares the names in
-    /// order.
+    /// The letter of a name, and `None` exactly where no letter has it. It compares the names
+    /// of its key.
     pub fn find(&self, name: &[u8]) -> Option<Letter>
         ensures { option_map (λ (a : Letter). a.0) result ≡ place_of self.now.letters name.now }
     {
-        match place_in(self.entries.as_slice(), name) {
-            Some(place) => Some(Letter(place as u8)),
-            None => None,
-        }
+        self.letters.find(name)
     }
 
     /// The processes of a letter.
@@ -101,7 +101,7 @@ impl Alphabet {
         requires { a.0 < length self.now.letters }
         ensures { result ≡ procs_at self.now.letters a.0 }
     {
-        self.entries[a.0 as usize].loc
+        self.letters.loc(a)
     }
 
     /// Whether no process belongs to both letters.
@@ -117,7 +117,7 @@ impl Alphabet {
     pub fn has_word(&self, w: &Word) -> bool
         ensures { IsTrue result ↔ IsWord (length self.now.letters) w.now }
     {
-        are_below(w.letters(), self.entries.len())
+        are_below(w.letters(), self.letters.len())
     }
 
     /// The projection of a word on process `p`: its letters of which `p` is a process, in order.
@@ -126,8 +126,7 @@ impl Alphabet {
         requires process { p < self.now.processes }
         ensures { IfOk result (λ v. v ≡ projection (loc_of self.now) p w.now) }
     {
-        let alloc = *self.entries.allocator();
-        let mut seen = Word::new(alloc);
+        let mut seen = Word::new(self.letters.allocator());
         let letters = w.letters();
         for a in letters {
             if self.loc(*a).has(p) {
@@ -144,7 +143,7 @@ impl Alphabet {
         requires second { IsWord (length self.now.letters) v.now }
         ensures { IsTrue result ↔ AreEquivalent (loc_of self.now) u.now v.now }
     {
-        for p in 0..self.processes {
+        for p in 0..self.letters.processes() {
             if !self.same_projection(u.letters(), v.letters(), p) {
                 return false;
             }
@@ -156,11 +155,8 @@ impl Alphabet {
     pub fn copy(&self) -> Result<Alphabet, OutOfMemory>
         ensures { IfOk result (λ a. a ≡ self.now) }
     {
-        let alloc = *self.entries.allocator();
-        let entries = copies_of(alloc, self.entries.as_slice())?;
         Ok(Alphabet {
-            processes: self.processes,
-            entries,
+            letters: self.letters.copy()?,
         })
     }
 
@@ -170,8 +166,10 @@ impl Alphabet {
         requires word { IsWord (length self.now.letters) (numbers letters.now) }
         requires within { at ≤ length letters.now }
         ensures within { at ≤ result × (result ≤ length letters.now) }
-        ensures skipped { projection (loc_of self.now) p (drop at (numbers letters.now)) ≡ projection (loc_of self.now) p (drop result (numbers letters.now)) }
-        ensures found { result < length letters.now → IsTrue (has (loc_of self.now (slice_index (numbers letters.now) result)) p) }
+        ensures skipped { let left = λ (i : ℕ). projection (loc_of self.now) p (drop i (numbers letters.now)) in
+            left at ≡ left result }
+        ensures found { result < length letters.now →
+            IsTrue (has (loc_of self.now (slice_index (numbers letters.now) result)) p) }
     {
         for i in at..letters.len() {
             if self.loc(letters[i]).has(p) {
@@ -185,7 +183,8 @@ impl Alphabet {
     fn same_projection(&self, u: &[Letter], v: &[Letter], p: usize) -> bool
         requires first { IsWord (length self.now.letters) (numbers u.now) }
         requires second { IsWord (length self.now.letters) (numbers v.now) }
-        ensures { IsTrue result ↔ (projection (loc_of self.now) p (numbers u.now) ≡ projection (loc_of self.now) p (numbers v.now)) }
+        ensures { let seen = projection (loc_of self.now) p in
+            IsTrue result ↔ (seen (numbers u.now) ≡ seen (numbers v.now)) }
     {
         let mut i = self.next_of(u, 0, p);
         let mut j = self.next_of(v, 0, p);

@@ -18,14 +18,23 @@ impl<T: Drop> From<AllocFailed<T>> for OutOfMemory {
     }
 }
 
+/// What is wrong with the name of one letter more.
+#[derive(Clone, Copy, Debug, PartialEq, Eq)]
+pub enum NameFault {
+    /// It isn't a name: 1 to 32 letters, digits and underscores, the first no digit.
+    Bad,
+    /// A letter has the name.
+    Repeated,
+}
+
 /// Why a number of processes and these rows make no alphabet. A place `at` counts rows from 0.
 #[derive(Clone, Copy, Debug, PartialEq, Eq, Error)]
 pub enum AlphaFault {
-    /// The number of processes isn't in 1 to 6.
-    #[error("processes not in 1 to 6")]
+    /// The number of processes isn't in 1 to 10.
+    #[error("processes not in 1 to 10")]
     ProcessCount,
-    /// The number of rows isn't in 1 to 32.
-    #[error("letters not in 1 to 32")]
+    /// The number of rows isn't in 1 to 128.
+    #[error("letters not in 1 to 128")]
     LetterCount,
     /// The row's name isn't a name: 1 to 32 letters, digits and underscores, the first no digit.
     #[error("letter {at}: bad name")]

@@ -48,6 +48,18 @@ impl Procs {
         self.0 == 0
     }
 
+    /// Whether each process of the set is below `n`.
+    pub fn is_below(self, n: usize) -> bool
+        ensures { IsTrue result ↔ ((p : ℕ) → IsTrue (has (members self) p) → p < n) }
+    {
+        for p in n..WIDTH {
+            if self.has(p) {
+                return false;
+            }
+        }
+        true
+    }
+
     /// Whether a process is in both sets.
     pub fn meets(self, other: Procs) -> bool
         ensures { result ≡ meets (members self) (members other) }

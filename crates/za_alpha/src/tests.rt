@@ -1,5 +1,6 @@
 use super::*;
 use std::alloc::{AllocError, Global};
+use std::process::Abort;
 use std::test::Fail;
 
 fn row(alloc: Global, name: &[u8], procs: &[u32]) -> Result<LetterRow, AllocError> {
@@ -10,7 +11,7 @@ fn row(alloc: Global, name: &[u8], procs: &[u32]) -> Result<LetterRow, AllocErro
 }
 
 fn word(alloc: Global, letters: &[u8]) -> Result<Word, OutOfMemory> {
-    let mut word = Word::new(alloc);
+    let mut word = Word::of_letters(Vec::new(alloc));
     for letter in letters {
         word.push(Letter(*letter))?;
     }
@@ -26,7 +27,7 @@ fn rows(alloc: Global, name: &[u8], procs: &[u32]) -> Result<Vec<LetterRow>, All
     Ok(rows)
 }
 
-fn assert_letters(rt: &impl std::process::Abort, word: &Word, letters: &[u8]) {
+fn assert_letters(rt: &impl Abort, word: &Word, letters: &[u8]) {
     assert_eq!(rt; word.len(), letters.len());
     for (seen, want) in word.letters().iter().zip(letters) {
         assert_eq!(rt; seen.0, *want);
@@ -34,42 +35,70 @@ fn assert_letters(rt: &impl std::process::Abort, word: &Word, letters: &[u8]) {
 }
 
 #[test]
-fn projections_of_a_word(rt: HostRuntime) -> Result<(), Fail> {
+fn letters_of_two_processes(rt: HostRuntime) -> Result<(), Fail> {
     let alloc = rt.alloc();
-    let alphabet = Alphabet::new(alloc, 2, rows(alloc, b"c", &[1, 0, 1])?)?;
-    let mut w = word(alloc, &[0, 1, 2])?;
-    w.push(Letter(0))?;
-    assert!(rt; alphabet.has_word(&w));
-    assert!(rt; alphabet.processes() == 2);
-    assert_letters(&rt, &alphabet.project(&w, 0)?, &[0, 2, 0]);
-    assert_letters(&rt, &alphabet.project(&w, 1)?, &[1, 2]);
-    assert_letters(&rt, &w.copy()?, &[0, 1, 2, 0]);
+    let first = Alphabet::new(alloc, 2, rows(alloc, b"c", &[1, 0, 1])?)?;
+    let alphabet = first.copy()?;
+    assert!(rt; alphabet.processes() == 2 && alphabet.letters() == 3);
+    assert!(rt; alphabet.independent(Letter(0), Letter(1)));
+    assert!(rt; !alphabet.independent(Letter(0), Letter(2)));
+    assert_eq!(rt; alphabet.name(Letter(2)), b"c".as_slice());
+    assert_eq!(rt; alphabet.find(b"d"), None);
+    let c = alphabet.loc(Letter(2));
+    assert_eq!(rt; (c.count(), c.least()), (2, Some(0)));
+    assert_eq!(rt; (c.is_below(1), c.is_below(2)), (false, true));
+    assert_eq!(rt; Procs::none().with(3).union(c).count(), 3);
     Ok(())
 }
 
 #[test]
-fn neighbours_that_commute(rt: HostRuntime) -> Result<(), Fail> {
+fn words_of_two_processes(rt: HostRuntime) -> Result<(), Fail> {
     let alloc = rt.alloc();
-    let first = Alphabet::new(alloc, 2, rows(alloc, b"c", &[0, 1])?)?;
-    let alphabet = first.copy()?;
-    assert!(rt; alphabet.letters() == 3);
-    assert!(rt; alphabet.independent(Letter(0), Letter(1)));
-    assert!(rt; !alphabet.independent(Letter(0), Letter(2)));
-    assert_eq!(rt; alphabet.name(Letter(2)), b"c".as_slice());
-    assert_eq!(rt; alphabet.find(b"c"), Some(Letter(2)));
-    assert_eq!(rt; alphabet.find(b"d"), None);
-    let c = alphabet.loc(Letter(2));
-    assert_eq!(rt; (c.count(), c.least(), c.is_empty()), (2, Some(0), false));
-    assert_eq!(rt; Procs::none().with(3).union(c).count(), 3);
-    let u = word(alloc, &[0, 1, 2])?;
+    let alphabet = Alphabet::new(alloc, 2, rows(alloc, b"c", &[0, 1])?)?;
+    let w = word(alloc, &[0, 1, 2, 0])?;
+    assert!(rt; alphabet.processes() == 2 && alphabet.has_word(&w));
+    assert_letters(&rt, &alphabet.project(&w, 0)?, &[0, 2, 0]);
+    assert_letters(&rt, &alphabet.project(&w, 1)?, &[1, 2]);
     for (letters, same) in [
-        ([1, 0, 2].as_slice(), true),
-        ([0, 2, 1].as_slice(), false),
-        ([0, 1].as_slice(), false),
+        ([1, 0, 2, 0].as_slice(), true),
+        ([0, 2, 1, 0].as_slice(), false),
+        ([0, 1, 2].as_slice(), false),
     ] {
-        let v = word(alloc, letters)?;
-        assert!(rt; alphabet.has_word(&u) && alphabet.has_word(&v));
-        assert_eq!(rt; alphabet.same_trace(&u, &v), same, "{letters:?}");
+        let v = word(alloc, letters)?.copy()?;
+        assert!(rt; alphabet.has_word(&v));
+        assert_eq!(rt; alphabet.same_trace(&w, &v), same, "{letters:?}");
+    }
+    Ok(())
+}
+
+#[test]
+fn letters_one_by_one(rt: HostRuntime) -> Result<(), Fail> {
+    let alloc = rt.alloc();
+    let mut letters = Letters::new(alloc, 2);
+    assert!(rt; letters.is_empty());
+    for (name, process, fault) in [
+        (b"a".as_slice(), 0, None),
+        (b"b".as_slice(), 1, None),
+        (b"1".as_slice(), 1, Some(NameFault::Bad)),
+        (b"b".as_slice(), 0, Some(NameFault::Repeated)),
+        (b"c".as_slice(), 1, None),
+    ] {
+        let seen = letters.name_fault(name);
+        assert_eq!(rt; seen, fault, "{name:?}");
+        let procs = Procs::none().with(process);
+        assert!(rt; !letters.is_full() && !procs.is_empty() && procs.is_below(letters.processes()));
+        if seen.is_none() {
+            letters.add(Vec::from_slice(alloc, name)?, procs)?;
+        }
+    }
+    assert!(rt; letters.len() == 3 && letters.processes() == 2);
+    let alphabet = letters.into_alphabet();
+    for (name, place) in [
+        (b"a".as_slice(), 0),
+        (b"b".as_slice(), 1),
+        (b"c".as_slice(), 2),
+    ] {
+        assert_eq!(rt; alphabet.find(name), Some(Letter(place)));
     }
     Ok(())
 }
@@ -79,7 +108,12 @@ fn first_wrong_row(rt: HostRuntime) -> Result<(), Fail> {
     let alloc = rt.alloc();
     for (n, name, procs, fault) in [
         (0, b"c".as_slice(), [0].as_slice(), AlphaFault::ProcessCount),
-        (7, b"c".as_slice(), [0].as_slice(), AlphaFault::ProcessCount),
+        (
+            11,
+            b"c".as_slice(),
+            [0].as_slice(),
+            AlphaFault::ProcessCount,
+        ),
         (
             1,
             b"1".as_slice(),

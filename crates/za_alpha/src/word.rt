@@ -35,6 +35,13 @@ impl Word {
         }
     }
 
+    /// The word of these letters.
+    pub fn of_letters(letters: Vec<Letter>) -> Word
+        ensures { result ≡ numbers letters.items }
+    {
+        Word { items: letters }
+    }
+
     /// Appends a letter. Where memory is refused the word stays as it was.
     pub fn push(&mut self, a: Letter) -> Result<(), OutOfMemory>
         ensures ok { OnOk result (self.new ≡ self.old ++ a.0 ∷ []) }

@@ -19,7 +19,7 @@ stays r = omega arith
 
 -- three of four bytes are taken where two are the limit
 three_of_four : HasRead 2 (Some (1 ∷ 2 ∷ 3 ∷ 4 ∷ [])) (Some (4 ∷ [])) 0 0 (Err TooLong)
-three_of_four = ((1 ∷ 2 ∷ 3 ∷ [], (refl, refl)), lit≤ tt)
+three_of_four = ((1 ∷ 2 ∷ 3 ∷ [], (refl, refl)), refl)
 
 -- the fourth byte isn't taken too
 not_four_of_four : HasRead 2 (Some (1 ∷ 2 ∷ 3 ∷ 4 ∷ [])) (Some []) 0 0 (Err TooLong) → ⊥

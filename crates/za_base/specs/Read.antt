@@ -12,9 +12,10 @@ Took old new P = (bytes : List ℕ) × (Consumes old new bytes × P (length byte
 
 -- a source was read to its end, and had at most `limit` bytes; or one byte more was taken; or at most `limit` bytes
 -- were taken and then a read failed, or memory was refused. `left` and `now` are the bytes left before and after,
--- `before` and `after` the counts of faults, of which only a fault says that it rose
+-- `before` and `after` the counts of faults: only where a read failed did it rise, and else it stays
 abbrev pub HasRead : ℕ → Option (List ℕ) → Option (List ℕ) → ℕ → ℕ → Result (Vec ℕ Global) ReadEnd → Type 0
-HasRead limit left now before after (Ok text) = (length text.items ≤ limit) × Consumes left now text.items × IsAtEnd now × (before ≤ after)
-HasRead limit left now before after (Err TooLong) = Took left now (λ n. n ≡ limit + 1) × (before ≤ after)
+HasRead limit left now before after (Ok text) =
+    (length text.items ≤ limit) × Consumes left now text.items × IsAtEnd now × (after ≡ before)
+HasRead limit left now before after (Err TooLong) = Took left now (λ n. n ≡ limit + 1) × (after ≡ before)
 HasRead limit left now before after (Err Fault) = Took left now (λ n. n ≤ limit) × Rises before after
-HasRead limit left now before after (Err OutOfMemory) = Took left now (λ n. n ≤ limit) × (before ≤ after)
+HasRead limit left now before after (Err OutOfMemory) = Took left now (λ n. n ≤ limit) × (after ≡ before)

@@ -1,4 +1,5 @@
-ghost use Rattle.std.specs.Prelude.{◌≡◌, ◌<◌, ◌≤◌, ◌-◌, ◌↔◌, ◌⊎◌, ◌++◌, [], Some, length, min, take, drop, IsErr, OnOk, OnErr, IfOk, Contains};
+ghost use Rattle.std.specs.Prelude.{◌≡◌, ◌<◌, ◌≤◌, ◌-◌, ◌↔◌, ◌⊎◌, ◌++◌, [], Some, length, min, take, drop, IsErr};
+ghost use Rattle.std.specs.Prelude.{OnOk, OnErr, IfOk, Contains};
 ghost use Rattle.std.specs.Io.KnownBytes.{ReadConsumes, WriteAppends};
 ghost use Rattle.za_base.specs.Fault.{next_count, Rises};
 
@@ -75,6 +76,7 @@ impl Source for MemSource {
         ensures end { IfOk result (λ n. (n ≡ 0) ↔ (self.old.left ≡ [])) }
         ensures never_falls { self.old.faults ≤ self.new.faults }
         ensures fault { OnErr result (Rises self.old.faults self.new.faults) }
+        ensures stays { OnOk result (self.new.faults ≡ self.old.faults) }
 
         // Which calls fail, how many bytes the others give, and what stays.
         ensures fails { IsErr result ↔ Contains self.old.failing (next_count self.old.calls) }
@@ -206,6 +208,7 @@ impl Sink for MemSink {
             piece.now }
         ensures never_falls { self.old.faults ≤ self.new.faults }
         ensures fault { OnErr result (Rises self.old.faults self.new.faults) }
+        ensures stays { OnOk result (self.new.faults ≡ self.old.faults) }
 
         // Which calls fail, how many bytes the others take, and what stays.
         ensures fails { IsErr result ↔ (Contains self.old.failing (next_count self.old.calls)

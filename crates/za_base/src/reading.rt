@@ -14,7 +14,7 @@ pub enum ReadEnd {
     /// There were more bytes than the limit.
     #[error("too many bytes")]
     TooLong,
-    /// Memory was refused.
+    /// Want of memory is the one free answer.
     #[error("out of memory")]
     OutOfMemory,
 }
@@ -26,7 +26,8 @@ const PIECE: usize = 4096;
 ///
 /// `TooLong` comes exactly where `limit + 1` bytes were taken, and more are never asked for.
 /// `Fault` comes only where the source's count of faults rose in this call, or stands at its last
-/// value. After an error the bytes taken are gone.
+/// value; after any other answer the count is what it was, so no read is tried again after a fault.
+/// After an error the bytes taken are gone.
 pub fn read_all<S: Source>(alloc: Global, source: &mut S, limit: usize) -> Result<Vec<u8>, ReadEnd>
     requires { limit < 4294967295 }
     ensures { HasRead limit (S.left source.old) (S.left source.new)

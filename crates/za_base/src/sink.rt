@@ -1,4 +1,4 @@
-ghost use Rattle.std.specs.Prelude.{◌<◌, ◌≤◌, ℕ, List, Option, length, IfOk, OnErr};
+ghost use Rattle.std.specs.Prelude.{◌≡◌, ◌<◌, ◌≤◌, ℕ, List, Option, length, IfOk, OnOk, OnErr};
 ghost use Rattle.std.specs.Io.KnownBytes.{WriteAppends};
 ghost use Rattle.za_base.specs.Fault.{Rises};
 
@@ -13,13 +13,14 @@ pub trait Sink {
     ghost faults: { Self → ℕ };
 
     /// Appends the first bytes of `piece`, which isn't empty, and says how many they are: one at
-    /// least. After `Failed` nothing was appended and the count of faults rose, or stands at its
-    /// last value.
+    /// least. The count of faults stays. After `Failed` nothing was appended and the count of faults
+    /// rose, or stands at its last value.
     fn write(&mut self, piece: &[u8]) -> Result<usize, Failed>
         requires { 0 < length piece.now }
         ensures some { IfOk result (λ n. 1 ≤ n) }
         ensures within { IfOk result (λ n. n ≤ length piece.now) }
         ensures bytes { WriteAppends (written self.old) (written self.new) result piece.now }
         ensures never_falls { faults self.old ≤ faults self.new }
-        ensures fault { OnErr result (Rises (faults self.old) (faults self.new)) };
+        ensures fault { OnErr result (Rises (faults self.old) (faults self.new)) }
+        ensures stays { OnOk result (faults self.new ≡ faults self.old) };
 }

@@ -1,10 +1,25 @@
-ghost use Rattle.std.specs.Prelude.{◌≡◌, ◌<◌, ◌≤◌, ◌↔◌, [], length, IfOk, OnOk, OnErr, IfSome};
+ghost use Rattle.std.specs.Prelude.{◌≡◌, ◌<◌, ◌≤◌, ◌↔◌, [], length, Ok, IsErr, IfOk, OnOk, OnErr, IfSome, OnSome};
+ghost use Rattle.std.specs.Prelude.{IfNone};
 ghost use Rattle.std.specs.Io.KnownBytes.{ReadConsumes, WriteAppends};
 ghost use Rattle.za_base.specs.Fault.{next_count, Rises};
 
 use crate::sink::Sink;
 use crate::source::{Failed, Source};
 use std::io::{Read, Write};
+
+/// What a read or a write answers that moved so many bytes, or that failed: a failure is counted.
+fn counted(moved: Option<usize>, faults: &mut u64) -> Result<usize, Failed>
+    ensures moved { IfSome moved (λ n. result ≡ Ok n) }
+    ensures failed { IfNone moved (IsErr result) }
+    ensures stays { OnSome moved (faults.new ≡ faults.old) }
+    ensures never_falls { faults.old ≤ faults.new }
+    ensures rises { IfNone moved (faults.new ≡ next_count faults.old) }
+{
+    if moved.is_none() {
+        *faults = faults.saturating_add(1);
+    }
+    moved.ok_or(Failed)
+}
 
 /// A source over a reader. It tells the bytes that the reader tells.
 #[derive(Drop)]
@@ -35,7 +50,8 @@ impl<R: Read> Source for StdSource<R> {
 
     ghost faults = { λ s. s.faults };
 
-    /// Reads once from the reader. Each of its errors, also an interruption, is a fault.
+    /// Reads once from the reader. Each of its errors, also an interruption, is a fault. When a reader
+    /// fails is said by no contract of std, and so by none here.
     fn read(&mut self, into: &mut [u8]) -> Result<usize, Failed>
         requires { 0 < length into.old }
         ensures within { IfOk result (λ n. n ≤ length into.old) }
@@ -45,19 +61,13 @@ impl<R: Read> Source for StdSource<R> {
             IfSome (R.remaining (source_reader self.old)) (λ xs. (n ≡ 0) ↔ (xs ≡ []))) }
         ensures never_falls { source_faults self.old ≤ source_faults self.new }
         ensures fault { OnErr result (Rises (source_faults self.old) (source_faults self.new)) }
+        ensures stays { OnOk result (source_faults self.new ≡ source_faults self.old) }
 
-        // The count goes up by one at each failure, and stays otherwise.
-        ensures count_ok { OnOk result (source_faults self.new ≡ source_faults self.old) }
-        ensures count_err { OnErr result
+        // The count goes up by one at each failure.
+        ensures count { OnErr result
             (source_faults self.new ≡ next_count (source_faults self.old)) }
     {
-        match self.reader.read(into) {
-            Ok(n) => Ok(n),
-            Err(_) => {
-                self.faults = self.faults.saturating_add(1);
-                Err(Failed)
-            }
-        }
+        counted(self.reader.read(into).ok(), &mut self.faults)
     }
 }
 
@@ -91,7 +101,7 @@ impl<W: Write> Sink for StdSink<W> {
     ghost faults = { λ s. s.faults };
 
     /// Writes once to the writer. Each of its errors, also an interruption, is a fault, and so is a
-    /// write that takes nothing.
+    /// write that takes nothing. When a writer fails is said by no contract of std, and so by none here.
     fn write(&mut self, piece: &[u8]) -> Result<usize, Failed>
         requires { 0 < length piece.now }
         ensures some { IfOk result (λ n. 1 ≤ n) }
@@ -100,18 +110,13 @@ impl<W: Write> Sink for StdSink<W> {
             (W.contents (sink_writer self.new)) result piece.now }
         ensures never_falls { sink_faults self.old ≤ sink_faults self.new }
         ensures fault { OnErr result (Rises (sink_faults self.old) (sink_faults self.new)) }
+        ensures stays { OnOk result (sink_faults self.new ≡ sink_faults self.old) }
 
-        // The count goes up by one at each failure, and stays otherwise.
-        ensures count_ok { OnOk result (sink_faults self.new ≡ sink_faults self.old) }
-        ensures count_err { OnErr result
+        // The count goes up by one at each failure.
+        ensures count { OnErr result
             (sink_faults self.new ≡ next_count (sink_faults self.old)) }
     {
-        match self.writer.write(piece) {
-            Ok(n) if n > 0 => Ok(n),
-            _ => {
-                self.faults = self.faults.saturating_add(1);
-                Err(Failed)
-            }
-        }
+        let moved = self.writer.write(piece).ok().filter(|n| *n > 0);
+        counted(moved, &mut self.faults)
     }
 }

@@ -6,7 +6,8 @@ use crate::source::Failed;
 /// Writes the whole text. It takes no memory.
 ///
 /// After `Err(k)` exactly the first `k` bytes of the text were appended, fewer than all, and the
-/// sink's count of faults rose in this call, or stands at its last value.
+/// sink's count of faults rose in this call, or stands at its last value. After `Ok` the count is
+/// what it was, so no write is tried again after a fault.
 pub fn write_all<K: Sink>(sink: &mut K, text: &[u8]) -> Result<(), usize>
     ensures { HasWritten text.now (K.written sink.old) (K.written sink.new)
         (K.faults sink.old) (K.faults sink.new) result }

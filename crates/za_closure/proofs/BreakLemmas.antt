@@ -4,12 +4,12 @@ use Rattle.std.proofs.lemmas.Bool.{cases_eq, cases_lt}
 use Rattle.std.proofs.lemmas.List.Elements.{All-append, All-cons}
 use Rattle.za_alpha.specs.Words.{IsWord}
 use Rattle.za_dfa.specs.Automata.{Automaton, IsTotal, walk, is_accepted}
+use Rattle.za_dfa.specs.Diamonds.{IsBrokenAt, IsFirstBroken}
 use Rattle.za_dfa.proofs.Diamonds.{walk-append, walk-below}
 use Rattle.za_min.specs.Minimal.{word_at, IsNumberedBy, IsLeastApart, TellsApart, HaveSameLanguage}
 use Rattle.za_min.proofs.Order.{before-same, not-before}
 use Rattle.za_closure.specs.Breaks.{Break, left_word, right_word, IsBreak, IsLeastBreak}
 use Rattle.za_closure.specs.Laws.{LeastBreaksAreOne}
-use Rattle.za_closure.specs.Open.{IsOpenAt, IsFirstOpen}
 
 -- a break by its parts
 break-same : (k l : Break) → k.before ≡ l.before → k.left ≡ l.left → k.right ≡ l.right → k.after ≡ l.after → k ≡ l
@@ -45,20 +45,20 @@ module _ (loc : ℕ → List ℕ) (d : Automaton) (total : IsTotal d) where
   break-tells : (k : Break) → IsBreak loc d k → (q : ℕ) → walk d.step d.start k.before ≡ q → TellsApart d (d.step (d.step q k.left) k.right) (d.step (d.step q k.right) k.left) k.after
   break-tells k b q e = record { word = b.after_word; apart = λ s. b.tells (left-walk k q e ∙ s ∙ sym (right-walk k q e)) }
 
-  -- the letters of a break have no diamond
-  break-open : (k : Break) → IsBreak loc d k → (q : ℕ) → walk d.step d.start k.before ≡ q → IsOpenAt loc d q k.left k.right
-  break-open k b q e =
+  -- the letters of a break have a broken diamond
+  break-breaks : (k : Break) → IsBreak loc d k → (q : ℕ) → walk d.step d.start k.before ≡ q → IsBrokenAt loc d q k.left k.right
+  break-breaks k b q e =
       record { order = b.order; letter = b.letter; apart = b.apart; parted = λ s. (break-tells k b q e).apart (ap (λ x. d.accepts (walk d.step x k.after)) s) }
 
-  -- the first open diamond, between the access word of its state and the least word that tells it, is the least break
-  pub first-is-least : (words : List (List ℕ)) → IsNumberedBy d words → (q a b : ℕ) (v : List ℕ) → IsFirstOpen loc d q a b → IsLeastApart d (d.step (d.step q a) b) (d.step (d.step q b) a) v →
+  -- the first broken diamond, between the access word of its state and the least word that tells it, is the least break
+  pub first-is-least : (words : List (List ℕ)) → IsNumberedBy d words → (q a b : ℕ) (v : List ℕ) → IsFirstBroken loc d q a b → IsLeastApart d (d.step (d.step q a) b) (d.step (d.step q b) a) v →
       IsLeastBreak loc d (record { before = word_at words q; left = a; right = b; after = v })
   first-is-least words num q a b v first apart =
       let u = word_at words q in
       let lu = num.access q first.state in
       let at : walk d.step d.start u ≡ q = lu.holds.there in
       let k : Break = record { before = u; left = a; right = b; after = v } in
-      let is = first.left.right.is in
+      let is = first.is in
       record {
         is = record {
           before_word = lu.holds.word;
@@ -72,18 +72,18 @@ module _ (loc : ℕ → List ℕ) (d : Automaton) (total : IsTotal d) where
             let r = walk d.step d.start l.before in
             let rl = walk-below d total d.start l.before total.starts bl.before_word in
             elim (cases_lt r q) [
-              | inl less ↦ absurd (first.least r l.left l.right less (break-open l bl r refl))
+              | inl less ↦ absurd (first.least_state r l.left l.right less (break-breaks l bl r refl))
               | inr more ↦ elim (cases_eq r q) [
                 | inl same ↦ lu.least l.before (record { word = bl.before_word; there = same })
                 | inr ne ↦ not-before l.before u (word_at words r) (num.rising q r (omega arith) rl) ((num.access r rl).least l.before (record { word = bl.before_word; there = refl }))
               ]
             ];
         left = λ l bl e. elim (cases_lt l.left a) [
-          | inl less ↦ absurd (first.left.least l.left l.right less (break-open l bl q (ap (walk d.step d.start) e ∙ at)))
+          | inl less ↦ absurd (first.least_left l.left l.right less (break-breaks l bl q (ap (walk d.step d.start) e ∙ at)))
           | inr more ↦ more
         ];
         right = λ l bl e s. elim (cases_lt l.right b) [
-          | inl less ↦ absurd (first.left.right.least l.right less (subst (λ x. IsOpenAt loc d q x l.right) s (break-open l bl q (ap (walk d.step d.start) e ∙ at))))
+          | inl less ↦ absurd (first.least_right l.right less (subst (λ x. IsBrokenAt loc d q x l.right) s (break-breaks l bl q (ap (walk d.step d.start) e ∙ at))))
           | inr more ↦ more
         ];
         after = λ l bl e s r.

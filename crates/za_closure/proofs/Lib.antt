@@ -1,3 +1,4 @@
 pub mod ClosedLemmas
 pub mod BreakLemmas
 pub mod CloseSteps
+pub mod Decided

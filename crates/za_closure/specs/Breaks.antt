@@ -39,13 +39,15 @@ pub record IsLeastBreak (loc : ℕ → List ℕ) (d : Automaton) (k : Break) : T
   pub before : (l : Break) → IsBreak loc d l → IsFalse (comes_before l.before k.before)
   pub left : (l : Break) → IsBreak loc d l → l.before ≡ k.before → k.left ≤ l.left
   pub right : (l : Break) → IsBreak loc d l → l.before ≡ k.before → l.left ≡ k.left → k.right ≤ l.right
-  pub after : (l : Break) → IsBreak loc d l → l.before ≡ k.before → l.left ≡ k.left → l.right ≡ k.right → IsFalse (comes_before l.after k.after)
+  pub after : (l : Break) → IsBreak loc d l → l.before ≡ k.before → l.left ≡ k.left → l.right ≡ k.right →
+      IsFalse (comes_before l.after k.after)
 
 -- the two words of the least break of the table's language
 abbrev pub AreBreakWords : CompleteDfa → List ℕ → List ℕ → Type 0
-AreBreakWords dfa left right = (k : Break) × IsLeastBreak (loc_of dfa.alphabet) (automaton_of dfa) k × (left ≡ left_word k) × (right ≡ right_word k)
+AreBreakWords dfa left right =
+    (k : Break) × IsLeastBreak (loc_of dfa.alphabet) (automaton_of dfa) k × (left ≡ left_word k) × (right ≡ right_word k)
 
--- what a refusal says: these two words, or that memory was refused
+-- what a refusal says: these two words, or the want of memory
 abbrev pub IsCause : CompleteDfa → Open → Type 0
 IsCause dfa (NotClosed left right) = AreBreakWords dfa left right
 IsCause dfa OutOfMemory = Unit {0}

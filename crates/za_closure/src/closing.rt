@@ -1,16 +1,15 @@
-ghost use Rattle.std.specs.Prelude.{◌≡◌, ◌<◌, ◌∷◌, ◌++◌, List, ℕ, IfOk, IfErr, OnOk};
+ghost use Rattle.std.specs.Prelude.{◌≡◌, ◌∷◌, ◌++◌, IfOk, IfErr, OnOk};
 ghost use Rattle.za_alpha.specs.Alphabet.{loc_of};
 ghost use Rattle.za_alpha.specs.Letters.{numbers};
 ghost use Rattle.za_dfa.specs.Automata.{IsTraceClosed};
-ghost use Rattle.za_dfa.specs.Tables.{IsComplete, automaton_of};
-ghost use Rattle.za_min.specs.Minimal.{HaveSameLanguage, IsMinimal, IsNumberedBy};
+ghost use Rattle.za_dfa.specs.Diamonds.{IsFirstBroken};
+ghost use Rattle.za_dfa.specs.Tables.{automaton_of};
+ghost use Rattle.za_min.specs.Minimal.{IsMinimalOf};
 ghost use Rattle.za_closure.specs.Breaks.{AreBreakWords, IsCause};
-ghost use Rattle.za_closure.specs.Open.{IsFirstOpen};
 
-use crate::diamonds::{OpenDiamond, first_open};
 use std::alloc::Global;
 use za_alpha::{Letter, OutOfMemory, Word};
-use za_dfa::{Closed, Dfa};
+use za_dfa::{Closed, Dfa, Diamond, first_broken};
 use za_min::{Minimal, minimise};
 
 /// Why a DFA gives no closed one.
@@ -21,7 +20,7 @@ pub enum Open {
     /// shortlex-least, then the lesser letter is the least, then the other one, and then the word after
     /// them is the shortlex-least.
     NotClosed { left: Word, right: Word },
-    /// Memory was refused.
+    /// The want of memory.
     OutOfMemory,
 }
 
@@ -64,17 +63,15 @@ fn joined(
     Ok(word)
 }
 
-/// The two words of the least break, which begins with the access word of an open diamond's state.
-fn words_of(
-    alloc: Global,
-    minimal: &Minimal,
-    first: OpenDiamond,
-) -> Result<(Word, Word), OutOfMemory>
-    requires { IsFirstOpen (loc_of minimal.now.dfa.alphabet) (automaton_of minimal.now.dfa) first.state first.left.0 first.right.0 }
+/// The two words of the least break, which begins with the access word of the first broken diamond's
+/// state.
+fn words_of(alloc: Global, minimal: &Minimal, first: Diamond) -> Result<(Word, Word), OutOfMemory>
+    requires { IsFirstBroken (loc_of minimal.now.dfa.alphabet) (automaton_of minimal.now.dfa)
+        first.state first.left.0 first.right.0 }
     ensures { IfOk result (λ words. AreBreakWords minimal.now.dfa words.0 words.1) }
 {
     let dfa = minimal.dfa();
-    let OpenDiamond { state, left, right } = first;
+    let Diamond { state, left, right } = first;
     let x = dfa.step(dfa.step(state, left), right);
     let y = dfa.step(dfa.step(state, right), left);
     let after = minimal.apart(x, y)?.unwrap();
@@ -85,20 +82,15 @@ fn words_of(
 }
 
 /// The minimal DFA of a DFA's language, where this is closed under trace equivalence. It is refused
-/// exactly where it isn't, with two words that show it. For `n` states and `m` letters it takes about
-/// `n * n * m + n * m * m` steps. `OutOfMemory` comes only where memory is refused.
+/// exactly where it isn't, with two words that show it. Want of memory is the one free answer.
 pub fn close(alloc: Global, dfa: &Dfa) -> Result<Closed, Open>
-    ensures alphabet { IfOk result (λ closed. closed.alphabet ≡ dfa.now.alphabet) }
-    ensures language { IfOk result (λ closed. HaveSameLanguage (automaton_of closed) (automaton_of dfa.now)) }
-    ensures minimal { IfOk result (λ closed. IsMinimal (automaton_of closed)) }
-    ensures numbered { IfOk result (λ closed. (words : List (List ℕ)) × IsNumberedBy (automaton_of closed) words) }
-    ensures whole { IfOk result (λ closed. IsComplete closed) }
+    ensures minimal { IfOk result (λ closed. IsMinimalOf closed dfa.now) }
     ensures closed { IfOk result (λ _. IsTraceClosed (loc_of dfa.now.alphabet) (automaton_of dfa.now)) }
     ensures refused { IfErr result (IsCause dfa.now) }
 {
     let minimal = minimise(alloc, dfa)?;
-    match first_open(minimal.dfa()) {
-        None => Ok(Closed::new(minimal.into_dfa()).ok().unwrap()),
+    match first_broken(minimal.dfa()) {
+        None => Ok(Closed::of_diamonds(minimal.into_dfa())),
         Some(first) => {
             let (left, right) = words_of(alloc, &minimal, first)?;
             Err(Open::NotClosed { left, right })

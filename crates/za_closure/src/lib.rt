@@ -3,11 +3,10 @@
 #![tactic(auto)]
 
 mod closing;
-mod diamonds;
 mod laws;
 
 pub use closing::{Open, close};
-pub use laws::{closed_languages, least_breaks_are_one};
+pub use laws::{closed_languages, closed_or_broken, least_breaks_are_one};
 
 #[cfg(test)]
 mod tests;

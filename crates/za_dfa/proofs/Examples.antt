@@ -94,7 +94,7 @@ parted_breaks = record { state = 0; left = 0; right = 1; is_state = lit< tt; is_
 no_states : dfa_fault 0 0 [] ≡ Some StateCount
 no_states = refl
 
-too_many_states : dfa_fault 33 0 [] ≡ Some StateCount
+too_many_states : dfa_fault 129 0 [] ≡ Some StateCount
 too_many_states = refl
 
 no_start : dfa_fault 2 2 (row 0 0 2 ∷ []) ≡ Some NoSuchStart

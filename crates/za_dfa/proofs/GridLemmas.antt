@@ -1,11 +1,9 @@
--- Tests of all numbers of a range, and of all cells of a grid.
+-- Tests of all numbers of a range, and the row and column of a cell.
 use Rattle.std.proofs.Common.{◌≡◌, ℕ, zero, suc, ◌+◌, ◌*◌, ◌/◌, ◌%◌, ◌<◌, ◌≤◌, Bool, true, refl, ap, ◌∙◌, arith, inl, inr, eqb, eqb-true}
-use Rattle.std.specs.Cmp.{both_ways}
 use Rattle.std.specs.Cmp.Derive.{both_true}
 use Rattle.std.specs.List.{list_all, range_with_len}
 use Rattle.std.proofs.lemmas.Bool.{cases_Bool, and_parts}
 use Rattle.std.proofs.lemmas.Bool.Decides.{nat_tests}
-use Rattle.std.proofs.lemmas.Nat.{div-mul-add, mod-mul-add, mul-add-lt}
 use Rattle.std.proofs.Math.Nat.{div-lt_iff_lt-mul, mod-lt}
 
 range_elim_from : (p : ℕ → Bool) (n a i : ℕ) → list_all p (range_with_len a n) ≡ true → a ≤ i → i < a + n → p i ≡ true
@@ -32,16 +30,3 @@ range_intro p n h = range_intro_from p n 0 (λ i low high. h i (omega arith))
 pub row_of_cell : (i rows columns : ℕ) → i < rows * columns → (i / columns < rows) × (i % columns < columns)
 row_of_cell i rows zero h = absurd (omega arith)
 row_of_cell i rows (suc n) h = let some : 0 < suc n = omega arith in ((div-lt_iff_lt-mul {k = suc n} {x = i} {y = rows} some).1 h, mod-lt i some)
-
--- the cells of a grid one by one, and row by row
-pub grid_test : (p : ℕ → ℕ → Bool) (rows columns : ℕ) →
-    list_all (λ i. p (i / columns) (i % columns)) (range_with_len 0 (rows * columns)) ≡ list_all (λ q. list_all (λ a. p q a) (range_with_len 0 columns)) (range_with_len 0 rows)
-grid_test p rows columns =
-    both_ways _ _
-    (λ all. range_intro (λ q. list_all (λ a. p q a) (range_with_len 0 columns)) rows (λ q hq. range_intro (λ a. p q a) columns (λ a ha.
-    let inside = mul-add-lt q columns a rows hq ha in
-    let e = range_elim (λ i. p (i / columns) (i % columns)) (rows * columns) (q * columns + a) all (omega arith) in
-    rw (div-mul-add q columns a ha, mod-mul-add q columns a ha) at e)))
-    (λ all. range_intro (λ i. p (i / columns) (i % columns)) (rows * columns) (λ i hi.
-    let at = row_of_cell i rows columns hi in
-    range_elim (λ a. p (i / columns) a) columns (i % columns) (range_elim (λ q. list_all (λ a. p q a) (range_with_len 0 columns)) rows (i / columns) all at.0) at.1))

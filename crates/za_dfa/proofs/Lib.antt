@@ -1,8 +1,8 @@
 pub mod Diamonds
 pub mod RowLemmas
 pub mod GridLemmas
-pub mod CellLemmas
+pub mod Completing
+pub mod EnteredLemmas
 pub mod TableLemmas
 pub mod DiamondLemmas
-pub mod RoundTrip
 pub mod Examples

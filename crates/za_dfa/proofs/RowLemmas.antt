@@ -1,12 +1,12 @@
 -- What follows where rows have no fault.
-use Rattle.std.proofs.Common.{◌≡◌, ℕ, ◌<◌, ◌≤◌, false, ◌&&◌, not, List, [], None, arith}
-use Rattle.std.specs.Prelude.{nat_lt, nat_le}
+use Rattle.std.proofs.Common.{◌≡◌, ℕ, ◌<◌, Bool, true, false, ◌&&◌, not, cond, List, length, Some, None, refl, arith}
+use Rattle.std.specs.Prelude.{nat_lt}
 use Rattle.std.proofs.lemmas.Bool.{not-false}
 use Rattle.std.proofs.lemmas.Bool.Decides.{nat_tests}
 use Rattle.za_alpha.proofs.RowLemmas.{none_of_cond}
 use Rattle.za_dfa.specs.declared.rows.Row.{Row}
-use Rattle.za_dfa.specs.declared.rows.TheConstants.{MOST_STATES}
-use Rattle.za_dfa.specs.Rows.{has_other, row_fault, rows_fault, dfa_fault}
+use Rattle.za_dfa.specs.declared.fault.DfaFault.TheVariants.{TwoTargets}
+use Rattle.za_dfa.specs.Rows.{has_other, row_fault}
 
 -- a row that passes its tests
 pub record IsRightRow (states : ℕ) (before : List Row) (row : Row) : Type 0 where
@@ -22,17 +22,12 @@ right_row states before row none =
     let both = not-false (nat_lt row.from states && nat_lt row.to states) inside.0 in
     record { from_below = grind (arith, nat_tests); to_below = grind (arith, nat_tests); uncontradicted = alone.0 }
 
--- the number of states, the start and each row are right
-pub record IsRightDfa (states start : ℕ) (rows : List Row) : Type 0 where
-  pub some_state : 1 ≤ states
-  pub few_states : states ≤ MOST_STATES
-  pub starts : start < states
-  pub rows_right : rows_fault states [] rows ≡ None
-
-pub right_dfa : (states start : ℕ) (rows : List Row) → dfa_fault states start rows ≡ None → IsRightDfa states start rows
-right_dfa states start rows none =
-    let counted = none_of_cond (not (nat_le 1 states && nat_le states MOST_STATES)) _ _ none in
-    let started = none_of_cond (not (nat_lt start states)) _ _ counted.1 in
-    let few = not-false (nat_le 1 states && nat_le states MOST_STATES) counted.0 in
-    let below = not-false (nat_lt start states) started.0 in
-    record { some_state = grind (arith, nat_tests); few_states = grind (arith, nat_tests); starts = grind (arith, nat_tests); rows_right = started.1 }
+-- the fault of a row that leads from a state to a state, where it is known whether a row before has another target
+pub fault_by_other : (states : ℕ) (before : List Row) (row : Row) (other : Bool) → row.from < states → row.to < states →
+    has_other before row.from row.letter.0 row.to ≡ other →
+    row_fault states before row ≡ cond other (Some (TwoTargets (length before) row.from row.letter)) None
+unfolding row_fault
+fault_by_other states before row other from_below to_below e =
+    let from : nat_lt row.from states ≡ true = grind (arith, nat_tests) in
+    let to : nat_lt row.to states ≡ true = grind (arith, nat_tests) in
+    rw (from, to, e) refl

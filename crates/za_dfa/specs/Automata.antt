@@ -26,8 +26,11 @@ is_accepted d w = d.accepts (walk d.step d.start w)
 
 -- the language is trace-closed: of two equivalent words both are accepted, or neither
 abbrev pub IsTraceClosed : (ℕ → List ℕ) → Automaton → Type 0
-IsTraceClosed loc d = (u v : List ℕ) → IsWord d.letters u → IsWord d.letters v → AreEquivalent loc u v → is_accepted d u ≡ is_accepted d v
+IsTraceClosed loc d =
+    (u v : List ℕ) → IsWord d.letters u → IsWord d.letters v → AreEquivalent loc u v → is_accepted d u ≡ is_accepted d v
 
 -- every diamond: from each state, two independent letters lead to one state in either order
 abbrev pub HasDiamonds : (ℕ → List ℕ) → Automaton → Type 0
-HasDiamonds loc d = (q a b : ℕ) → q < d.states → a < d.letters → b < d.letters → IsTrue (independent loc a b) → d.step (d.step q a) b ≡ d.step (d.step q b) a
+HasDiamonds loc d =
+    (q a b : ℕ) → q < d.states → a < d.letters → b < d.letters → IsTrue (independent loc a b) →
+    d.step (d.step q a) b ≡ d.step (d.step q b) a

@@ -1,7 +1,9 @@
+pub mod Limits
 pub mod Automata
 pub mod Diamonds
 pub mod Tables
+pub mod Partials
 pub mod Closed
 pub mod Rows
-pub mod Cells
 pub mod Laws
+pub mod Private

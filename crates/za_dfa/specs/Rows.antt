@@ -1,13 +1,14 @@
 -- The rows that a table is made of, the first that is wrong, and the completed table.
-use Rattle.std.specs.Prelude.{ℕ, ◌+◌, ◌*◌, ◌/◌, ◌%◌, ◌==◌, ◌&&◌, ◌++◌, nat_lt, nat_le, not, Bool, false, List, [], ◌∷◌, length, map, Option, Some, None, is_some, unwrap_or, if◌then◌else◌}
-use Rattle.std.specs.List.{list_any, list_all, range_with_len}
+use Rattle.std.specs.Prelude.{ℕ, ◌*◌, ◌/◌, ◌%◌, ◌==◌, ◌&&◌, ◌++◌, nat_lt, nat_le, not, Bool, List, [], ◌∷◌, length, map, Option, Some, None, if◌then◌else◌}
+use Rattle.std.specs.List.{list_any, range_with_len}
 use Rattle.std.specs.Option.{option_or}
 use Rattle.za_alpha.specs.Alphabet.{DistributedAlphabet}
 use Rattle.za_dfa.specs.declared.rows.Row.{Row}
 use Rattle.za_dfa.specs.declared.fault.DfaFault.{DfaFault}
 use Rattle.za_dfa.specs.declared.fault.DfaFault.TheVariants.{StateCount, NoSuchStart, NoSuchState, TwoTargets}
-use Rattle.za_dfa.specs.declared.rows.TheConstants.{MOST_STATES}
+use Rattle.za_dfa.specs.Limits.{most_states}
 use Rattle.za_dfa.specs.Tables.{CompleteDfa}
+use Rattle.za_dfa.specs.Partials.{PartialDfa, completion}
 
 -- whether the row is of state q and letter a
 abbrev pub is_at : ℕ → ℕ → Row → Bool
@@ -32,41 +33,28 @@ row_fault states before row =
 -- the fault of the first wrong row
 abbrev pub rows_fault : ℕ → List Row → List Row → Option DfaFault
 rows_fault states before [] = None
-rows_fault states before (row ∷ rows) = option_or (row_fault states before row) (rows_fault states (before ++ row ∷ []) rows)
+rows_fault states before (row ∷ rows) =
+    option_or (row_fault states before row) (rows_fault states (before ++ row ∷ []) rows)
 
 -- the first fault, if there is one
 abbrev pub dfa_fault : ℕ → ℕ → List Row → Option DfaFault
 dfa_fault states start rows =
-    if not (nat_le 1 states && nat_le states MOST_STATES) then Some StateCount
+    if not (nat_le 1 states && nat_le states most_states) then Some StateCount
     else (if not (nat_lt start states) then Some NoSuchStart
     else rows_fault states [] rows)
 
--- whether each state and letter has a row
-abbrev pub is_whole : ℕ → ℕ → List Row → Bool
-is_whole states letters rows = list_all (λ q. list_all (λ a. is_some (target_in rows q a)) (range_with_len 0 letters)) (range_with_len 0 states)
+-- the cells of rows, by state and then by letter: the target of the first row of each state and letter
+abbrev pub cells_of : ℕ → ℕ → List Row → List (Option ℕ)
+cells_of states letters rows =
+    map (λ i. target_in rows (i / letters) (i % letters)) (range_with_len 0 (states * letters))
 
--- how many states the completed table has: one more where a row is missing
-abbrev pub completed_states : ℕ → ℕ → List Row → ℕ
-completed_states states letters rows = if is_whole states letters rows then states else states + 1
-
--- the target of each state and letter: that of their rows, and the added state where they have none
-abbrev pub completed_targets : ℕ → ℕ → List Row → List ℕ
-completed_targets states letters rows =
-    map (λ i. unwrap_or (target_in rows (i / letters) (i % letters)) states) (range_with_len 0 (completed_states states letters rows * letters))
-
--- the states that accept, the added state not among them
-abbrev pub completed_accepting : ℕ → ℕ → List Bool → List Row → List Bool
-completed_accepting states letters accepting rows = if is_whole states letters rows then accepting else accepting ++ false ∷ []
+-- the partial table of rows
+abbrev pub partial_of : DistributedAlphabet → ℕ → ℕ → List Bool → List Row → PartialDfa
+partial_of alphabet states start accepting rows =
+    let cells = cells_of states (length alphabet.letters) rows in
+    record { alphabet = alphabet; states = states; start = start; accepting = accepting; targets = cells }
 
 -- the table of the rows: where a row is missing, one rejecting state is added, to which each missing
 -- row leads, and which leads to itself
 abbrev pub completed : DistributedAlphabet → ℕ → ℕ → List Bool → List Row → CompleteDfa
-completed alphabet states start accepting rows =
-    let letters = length alphabet.letters in
-    record {
-      alphabet = alphabet;
-      states = completed_states states letters rows;
-      start = start;
-      accepting = completed_accepting states letters accepting rows;
-      targets = completed_targets states letters rows;
-    }
+completed alphabet states start accepting rows = completion (partial_of alphabet states start accepting rows)

@@ -2,7 +2,7 @@
 use Rattle.std.specs.Prelude.{◌≡◌, ℕ, ◌+◌, ◌*◌, ◌<◌, ◌≤◌, ◌&&◌, nat_lt, Bool, false, List, All, length, slice_index, slice_index_or, if◌then◌else◌}
 use Rattle.za_alpha.specs.Alphabet.{DistributedAlphabet, IsDistributed}
 use Rattle.za_dfa.specs.declared.dfa.Dfa.TheInside.{Inside}
-use Rattle.za_dfa.specs.declared.rows.TheConstants.{MOST_STATES}
+use Rattle.za_dfa.specs.Limits.{most_states}
 use Rattle.za_dfa.specs.Automata.{Automaton}
 
 -- a table over an alphabet of m letters: entry q * m + a of `targets` is where letter a leads from
@@ -28,14 +28,20 @@ accepts_at d q = slice_index_or d.accepting q false
 
 -- the automaton that the table is
 abbrev pub automaton_of : CompleteDfa → Automaton
-automaton_of d = record { states = d.states; letters = length d.alphabet.letters; start = d.start; step = step_of d; accepts = accepts_at d }
+automaton_of d = record {
+  states = d.states;
+  letters = length d.alphabet.letters;
+  start = d.start;
+  step = step_of d;
+  accepts = accepts_at d;
+}
 
 -- what holds of each table: the limits, a start, an entry for each state, a target for each state
 -- and letter, and each target is a state
 pub record IsComplete (d : CompleteDfa) : Type 0 where
   pub distributed : IsDistributed d.alphabet
   pub some_state : 1 ≤ d.states
-  pub few_states : d.states ≤ MOST_STATES + 1
+  pub few_states : d.states ≤ most_states + 1
   pub starts : d.start < d.states
   pub accepting_length : length d.accepting ≡ d.states
   pub targets_length : length d.targets ≡ d.states * length d.alphabet.letters
@@ -47,8 +53,13 @@ table_with alphabet start accepting targets =
     record { alphabet = alphabet; states = length accepting; start = start; accepting = accepting; targets = targets }
 
 abbrev pub table_of : Inside → CompleteDfa
-table_of inside =
-    record { alphabet = inside.alphabet; states = inside.states; start = inside.start; accepting = inside.accepting.items; targets = inside.targets.items }
+table_of inside = record {
+  alphabet = inside.alphabet;
+  states = inside.states;
+  start = inside.start;
+  accepting = inside.accepting.items;
+  targets = inside.targets.items;
+}
 
 abbrev pub IsCompleteInside : Inside → Type 0
 IsCompleteInside inside = IsComplete (table_of inside)

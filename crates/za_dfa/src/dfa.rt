@@ -1,11 +1,11 @@
-ghost use Rattle.std.specs.Prelude.{◌≡◌, ◌<◌, ◌∷◌, ◌++◌, [], All, false, length, nat_lt, unwrap_or, MatchResult, IfOk, if◌then◌else◌};
+ghost use Rattle.std.specs.Prelude.{◌≡◌, ◌<◌, ◌↔◌, All, IsTrue, length, unwrap_or, MatchResult, IfOk};
 ghost use Rattle.za_alpha.specs.Words.{IsWord};
 ghost use Rattle.za_dfa.specs.Automata.{walk, is_accepted};
 ghost use Rattle.za_dfa.specs.Rows.{dfa_fault, completed};
 ghost use Rattle.za_dfa.specs.Tables.{step_of, accepts_at, automaton_of, table_with, IsComplete};
 
 use crate::fault::DfaFault;
-use crate::rows::{Row, table_of};
+use crate::rows::{MOST_STATES, Row, partial_of};
 use std::alloc::Global;
 use std::marker::Model;
 use za_alpha::{Alphabet, Letter, OutOfMemory, Word};
@@ -31,15 +31,11 @@ impl Model for Dfa {
     ghost invariant = { IsCompleteInside };
 }
 
-/// Which states accept: the given ones, and none that is added.
-fn accepting_of(mut accepting: Vec<bool>, states: usize) -> Result<Vec<bool>, OutOfMemory>
-    ensures { let given = accepting.items in
-        IfOk result (λ all. all.items ≡ (if nat_lt (length given) states then given ++ false ∷ [] else given)) }
+/// Whether each target is a state.
+fn are_below(targets: &[u8], states: usize) -> bool
+    ensures { IsTrue result ↔ All (λ target. target < states) targets.now }
 {
-    if accepting.len() < states {
-        accepting.push(false)?;
-    }
-    Ok(accepting)
+    targets.iter().all(|target| (*target as usize) < states)
 }
 
 impl Dfa {
@@ -47,7 +43,8 @@ impl Dfa {
     /// state whether it accepts. An equal row given again changes nothing. If some state and letter
     /// have no row, one rejecting state with number `states` is added: all missing rows lead to it,
     /// and it leads to itself. The first fault is named, of the rows that of the first wrong one.
-    /// All is tested before memory is asked for. After an error the alphabet is dropped.
+    /// Want of memory is the one free answer, and comes for no wrong rows. After an error the alphabet
+    /// is dropped.
     pub fn complete(
         alloc: Global,
         alphabet: Alphabet,
@@ -63,20 +60,14 @@ impl Dfa {
             × (d ≡ completed alphabet states start accepting.items rows.now))
             (λ e. e ≡ unwrap_or (dfa_fault states start rows.now) DfaFault.OutOfMemory) }
     {
-        let table = table_of(alloc, alphabet.letters(), states, start, rows)?;
-        let accepting = accepting_of(accepting, table.states)?;
-        Ok(Dfa {
-            alphabet,
-            states: table.states,
-            start: start as u8,
-            accepting,
-            targets: table.targets,
-        })
+        let partial = partial_of(alloc, alphabet, states, start, accepting, rows)?;
+        Ok(partial.complete()?)
     }
 
     /// The table with these entries: entry `q` of `accepting` says whether state `q` accepts, and
     /// entry `q * m + a` of `targets` is where letter `a` of `m` letters leads from state `q`. There is
-    /// a state for each entry of `accepting`, 1 to 33, and each target is one. It takes no memory.
+    /// a state for each entry of `accepting`, 1 to 129, and each target is one. It takes no memory, and
+    /// `is_table` is the test of what it requires.
     pub fn of_table(alphabet: Alphabet, start: u8, accepting: Vec<bool>, targets: Vec<u8>) -> Dfa
         requires { IsComplete (table_with alphabet start accepting.items targets.items) }
         ensures { result ≡ table_with alphabet start accepting.items targets.items }
@@ -88,6 +79,33 @@ impl Dfa {
             accepting,
             targets,
         }
+    }
+
+    /// Whether `of_table` takes these entries.
+    pub fn is_table(alphabet: &Alphabet, start: u8, accepting: &[bool], targets: &[u8]) -> bool
+        ensures { IsTrue result ↔ IsComplete (table_with alphabet.now start accepting.now targets.now) }
+    {
+        let states = accepting.len();
+        (start as usize) < states
+            && states <= MOST_STATES + 1
+            && targets.len() == states * alphabet.letters()
+            && are_below(targets, states)
+    }
+
+    /// An equal one.
+    pub fn copy(&self) -> Result<Dfa, OutOfMemory>
+        ensures { IfOk result (λ dfa. dfa ≡ self.now) }
+    {
+        let alphabet = self.alphabet.copy()?;
+        let accepting = self.accepting.clone()?;
+        let targets = self.targets.clone()?;
+        Ok(Dfa {
+            alphabet,
+            states: self.states,
+            start: self.start,
+            accepting,
+            targets,
+        })
     }
 
     /// The alphabet.
@@ -145,6 +163,20 @@ impl Dfa {
         ensures { result ≡ accepts_at self.now q }
     {
         self.accepting[q as usize]
+    }
+
+    /// Which states accept.
+    pub(crate) fn accepting_states(&self) -> &[bool]
+        ensures { result.now ≡ self.now.accepting }
+    {
+        self.accepting.as_slice()
+    }
+
+    /// The targets, by state and then by letter.
+    pub(crate) fn targets(&self) -> &[u8]
+        ensures { result.now ≡ self.now.targets }
+    {
+        self.targets.as_slice()
     }
 
     /// Whether the word leads from the start to a state that accepts.

@@ -4,8 +4,8 @@ use za_alpha::{Letter, OutOfMemory};
 /// Why a number of states, a start and these rows make no DFA. A place `at` counts rows from 0.
 #[derive(Clone, Copy, Debug, PartialEq, Eq, Error)]
 pub enum DfaFault {
-    /// The number of states isn't in 1 to 32.
-    #[error("states not in 1 to 32")]
+    /// The number of states isn't in 1 to 128.
+    #[error("states not in 1 to 128")]
     StateCount,
     /// The start isn't below the number of states.
     #[error("no such start")]
@@ -37,3 +37,8 @@ impl From<OutOfMemory> for DfaFault {
         DfaFault::OutOfMemory
     }
 }
+
+/// The letter leads from the state to another state already.
+#[derive(Clone, Copy, Debug, PartialEq, Eq, Error)]
+#[error("two targets")]
+pub struct TwoTargets;

@@ -1,7 +1,7 @@
 ghost use Rattle.std.specs.Prelude.{◌≡◌, ◌<◌, ◌↔◌, All, IfOk, IsTrue};
 ghost use Rattle.za_alpha.specs.Words.{IsWord};
 
-use crate::{Closed, Dfa, DfaFault, Row};
+use crate::{Closed, Dfa, DfaFault, Diamond, Partial, Row, TwoTargets, first_broken};
 use std::alloc::{AllocError, Global};
 use std::process::Abort;
 use std::test::Fail;
@@ -130,8 +130,11 @@ fn even_numbers_of_a_are_accepted_and_closed(rt: HostRuntime) -> Result<(), Fail
     assert_eq!(rt; dfa.start(), 0);
     assert!(rt; is_word(&[1, 0], dfa.alphabet().letters()));
     assert_eq!(rt; dfa.run(1, &word_of(rt.alloc(), &[1, 0])?), 0);
+    assert_eq!(rt; first_broken(&dfa), None);
     let closed = Closed::new(dfa).ok().expect(&rt, "closed");
     assert_eq!(rt; closed.dfa().states(), 2);
+    let copy = closed.copy()?;
+    assert!(rt; accepts(&rt, copy.dfa(), &[0, 1, 2, 0])?);
     Ok(())
 }
 
@@ -155,12 +158,39 @@ fn missing_rows_lead_to_an_added_state(rt: HostRuntime) -> Result<(), Fail> {
     Ok(())
 }
 
+fn enter(rt: &impl Abort, partial: &mut Partial, row: Row) -> Result<(), TwoTargets> {
+    assert!(rt; row.from < 2 && row.to < 2 && row.letter.0 < 2);
+    assert!(rt; partial.states() == 2 && partial.alphabet().letters() == 2);
+    partial.enter(row.from as u8, row.letter, row.to as u8)
+}
+
+#[test]
+fn a_partial_table_row_by_row(rt: HostRuntime) -> Result<(), Fail> {
+    let alphabet = alphabet_of(rt.alloc(), false)?;
+    let mut partial = Partial::blank(rt.alloc(), alphabet, 2)?;
+    partial.start_at(1);
+    partial.accept(1);
+    assert_eq!(rt; enter(&rt, &mut partial, row(0, 0, 1)), Ok(()));
+    assert_eq!(rt; enter(&rt, &mut partial, row(0, 0, 0)), Err(TwoTargets));
+    assert_eq!(rt; enter(&rt, &mut partial, row(0, 0, 1)), Ok(()));
+    assert_eq!(rt; enter(&rt, &mut partial, row(1, 1, 0)), Ok(()));
+    let dfa = partial.completed()?;
+    assert!(rt; dfa.states() == 3);
+    let again = Partial::of(rt.alloc(), &dfa)?.complete()?;
+    assert_eq!(rt; (again.states(), again.start()), (3, 1));
+    assert!(rt; accepts(&rt, &again, &[1, 0])?);
+    assert!(rt; !accepts(&rt, &again, &[0])?);
+    Ok(())
+}
+
 #[test]
 fn a_whole_table(rt: HostRuntime) -> Result<(), Fail> {
     let alphabet = alphabet_of(rt.alloc(), false)?;
     assert_eq!(rt; alphabet.letters(), 2);
     let accepting = Vec::from_slice(rt.alloc(), &[true, false])?;
     let targets = Vec::from_slice(rt.alloc(), &[1, 0, 0, 1])?;
+    assert!(rt; !Dfa::is_table(&alphabet, 1, &accepting, &targets[..3]));
+    assert!(rt; Dfa::is_table(&alphabet, 1, &accepting, &targets));
     let dfa = Dfa::of_table(alphabet, 1, accepting, targets);
     assert_eq!(rt; dfa.states(), 2);
     assert!(rt; accepts(&rt, &dfa, &[1, 0])?);
@@ -172,6 +202,12 @@ fn a_whole_table(rt: HostRuntime) -> Result<(), Fail> {
 fn a_broken_diamond_hands_the_dfa_back(rt: HostRuntime) -> Result<(), Fail> {
     let rows = [row(0, 0, 1), row(1, 1, 0), row(0, 1, 0), row(1, 0, 1)];
     let dfa = completed(&rt, false, 2, 0, &rows)??;
+    let diamond = Diamond {
+        state: 0,
+        left: Letter(0),
+        right: Letter(1),
+    };
+    assert_eq!(rt; first_broken(&dfa), Some(diamond));
     let refused = Closed::new(dfa).err().expect(&rt, "refused");
     assert_eq!(rt; refused.states(), 2);
     assert!(rt; accepts(&rt, &refused, &[0, 1])?);
@@ -188,8 +224,8 @@ fn the_first_fault_is_named(rt: HostRuntime) -> Result<(), Fail> {
     };
     for (states, start, rows, fault) in [
         (0, 0, [].as_slice(), Some(DfaFault::StateCount)),
-        (33, 0, [].as_slice(), Some(DfaFault::StateCount)),
-        (32, 31, [].as_slice(), None),
+        (129, 0, [].as_slice(), Some(DfaFault::StateCount)),
+        (128, 127, [].as_slice(), None),
         (2, 2, [row(0, 0, 2)].as_slice(), Some(DfaFault::NoSuchStart)),
         (
             2,

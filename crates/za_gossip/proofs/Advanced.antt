@@ -4,22 +4,23 @@ use Rattle.std.specs.List.{range_with_len}
 use Rattle.std.proofs.lemmas.Bool.{cases_Bool, not_from_true, not_from_false}
 use Rattle.std.proofs.lemmas.List.{get_or-map}
 use Rattle.std.proofs.lemmas.Option.{get_or_from_slice_get}
-use Rattle.za_alpha.specs.Words.{has, least}
+use Rattle.za_alpha.specs.Words.{has}
+use Rattle.za_alpha.specs.Search.{least}
 use Rattle.za_alpha.specs.Alphabet.{DistributedAlphabet, IsDistributed, loc_of, procs_at}
 use Rattle.za_order.specs.Views.{participants}
 use Rattle.za_order.specs.Labels.{number_of}
 use Rattle.za_order.specs.Locals.{Ids, ids, best}
 use Rattle.za_gossip.specs.declared.gossip.Level.{Level}
 use Rattle.za_gossip.specs.Rows.{Rows, rows_of, AreRowsAfter}
-use Rattle.za_gossip.specs.Levels.{level_of}
+use Rattle.za_gossip.specs.Private.Levels.{level_of}
 use Rattle.za_gossip.specs.Updates.{newest, new_label, updated}
-use Rattle.za_gossip.specs.Sources.{IsSource, joined_entry}
+use Rattle.za_gossip.specs.Private.Sources.{IsSource, joined_entry}
 use Rattle.za_gossip.proofs.Numbers.{newest-best, least-is}
 use Rattle.za_order.proofs.Rising.{rising-members, has-place}
 use Rattle.za_gossip.proofs.LevelRows.{width, own_block, IsRight, length-row, row-joined}
 use Rattle.za_gossip.proofs.Inputs.{inputs-length, inputs-some, input-at}
 
-module _ (alphabet : DistributedAlphabet) (a : ℕ) (whole : IsDistributed alphabet) (small : a < length alphabet.letters) (inputs : List Rows) (w : List ℕ) (given : AreRowsAfter alphabet w a inputs) where
+module _ (alphabet : DistributedAlphabet) (a : ℕ) (whole : IsDistributed alphabet) (small : a < length alphabet.letters) (inputs : List Rows) (w : List ℕ) (given : AreRowsAfter alphabet w (loc_of alphabet a) inputs) where
   abbrev loc : ℕ → List ℕ
   loc = loc_of alphabet
 

@@ -29,9 +29,9 @@ IsBestOf alphabet a w r y i = IsLeastNewest (participants (loc_of alphabet) w) (
 pub record IsBestSoFar (alphabet : DistributedAlphabet) (a : ℕ) (inputs : List Rows) (r y i : ℕ) : Type 0 where
   pub some : y ≤ length inputs
   pub below : i < y
-  pub best : (w : List ℕ) → AreRowsAfter alphabet w a inputs → IsBestOf alphabet a w r y i
+  pub best : (w : List ℕ) → AreRowsAfter alphabet w (loc_of alphabet a) inputs → IsBestOf alphabet a w r y i
 
-module _ (alphabet : DistributedAlphabet) (a : ℕ) (whole : IsDistributed alphabet) (small : a < length alphabet.letters) (inputs : List Rows) (w : List ℕ) (given : AreRowsAfter alphabet w a inputs) where
+module _ (alphabet : DistributedAlphabet) (a : ℕ) (whole : IsDistributed alphabet) (small : a < length alphabet.letters) (inputs : List Rows) (w : List ℕ) (given : AreRowsAfter alphabet w (loc_of alphabet a) inputs) where
   abbrev loc : ℕ → List ℕ
   loc = loc_of alphabet
 

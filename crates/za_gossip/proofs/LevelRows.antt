@@ -14,9 +14,9 @@ use Rattle.za_order.specs.Locals.{Ids}
 use Rattle.za_gossip.specs.declared.gossip.Level.{Level}
 use Rattle.za_gossip.specs.declared.gossip.Level.TheVariants.{Primary, Secondary, Tertiary}
 use Rattle.za_gossip.specs.Rows.{rows_of}
-use Rattle.za_gossip.specs.Levels.{level_of}
+use Rattle.za_gossip.specs.Private.Levels.{level_of}
 use Rattle.za_gossip.specs.Updates.{newest, new_label, new_primary, new_secondary, updated}
-use Rattle.za_gossip.specs.Sources.{joined_entry}
+use Rattle.za_gossip.specs.Private.Sources.{joined_entry}
 use Rattle.za_gossip.proofs.Blocks.{entry-of-block, length-blocks}
 
 -- the block for q, and its length

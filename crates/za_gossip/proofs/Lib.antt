@@ -9,3 +9,4 @@ pub mod SourceLists
 pub mod LevelRows
 pub mod Sizes
 pub mod Advanced
+pub mod Renamed

@@ -4,7 +4,8 @@ use Rattle.std.specs.List.{range_with_len, list_any, list_all}
 use Rattle.std.specs.Option.{option_map_or}
 use Rattle.std.proofs.Math.Path.{fun_ext}
 use Rattle.std.proofs.lemmas.Bool.{cases_Bool, cases_order, or_left, not_from_true, not_from_false}
-use Rattle.za_alpha.specs.Words.{has, least, IsAlphabet, IsWord}
+use Rattle.za_alpha.specs.Words.{has, IsAlphabet, IsWord}
+use Rattle.za_alpha.specs.Search.{least}
 use Rattle.za_order.specs.Views.{participants, in_view}
 use Rattle.za_order.specs.Entries.{primary, tertiary}
 use Rattle.za_order.specs.Labels.{least_participant, label, number_of, number}
@@ -18,7 +19,7 @@ use Rattle.za_alpha.proofs.Least.{least-true, least-le}
 use Rattle.za_order.proofs.Labels.{label-free, label-least, labels_are_bounded}
 use Rattle.za_order.proofs.Numbers.{number_of-parts, number-some, numbers_tell_apart}
 use Rattle.za_gossip.specs.Rows.{rows_of}
-use Rattle.za_gossip.specs.Updates.{has_seen, newest, new_label}
+use Rattle.za_gossip.specs.Updates.{knows_number, newest, new_label}
 use Rattle.za_gossip.specs.Laws.{NewestIsBest}
 
 module _ (loc : ℕ → List ℕ) (letters processes : ℕ) (w : List ℕ) (alphabet : IsAlphabet loc letters processes) (word : IsWord letters w) (n : ℕ) (l : n ≤ length w) where
@@ -49,7 +50,7 @@ module _ (loc : ℕ → List ℕ) (letters processes : ℕ) (w : List ℕ) (alph
       (eq-eqb ((known x).secondary s.0 r) ((known y).primary r) (ap (number loc processes w) (s.1 ∙ sym h))))
 
   -- so the test by numbers is the test by views
-  pub seen : (r x y : ℕ) → has_seen processes known r x y ≡ option_map_or (λ e. in_view who n (x ∷ []) e) (primary who n y r) true
+  pub seen : (r x y : ℕ) → knows_number processes (known x).secondary r ((known y).primary r) ≡ option_map_or (λ e. in_view who n (x ∷ []) e) (primary who n y r) true
   seen r x y =
       let any : Bool = list_any (λ q. (known x).secondary q r == (known y).primary r) (range_with_len 0 processes) in
       elim (option-cases (primary who n y r)) [

@@ -1,12 +1,9 @@
 -- The rows of numbers.
-use Rattle.std.proofs.Common.{◌≡◌, ℕ, zero, suc, ◌+◌, ◌*◌, List, [], ◌∷◌, ◌++◌, map, flat_map, replicate, length, get_or, ◌<◌, refl, sym, ap, ◌∙◌, arith}
+use Rattle.std.proofs.Common.{◌≡◌, ℕ, zero, suc, ◌+◌, ◌*◌, List, [], ◌∷◌, ◌++◌, map, flat_map, replicate, refl, sym, ap, ◌∙◌, arith}
 use Rattle.std.specs.List.{range_with_len}
 use Rattle.std.proofs.Math.Nat.{suc-mul, mul_assoc}
-use Rattle.std.proofs.lemmas.List.FromFn.{length-map-range_with_len, get_or-map-range_with_len}
-use Rattle.za_alpha.specs.Alphabet.{DistributedAlphabet, loc_of}
-use Rattle.za_order.specs.Locals.{ids}
 use Rattle.std.proofs.lemmas.List.{replicate-append-replicate}
-use Rattle.za_gossip.specs.Rows.{Rows, rows_after, all_rows_after, blank_rows}
+use Rattle.za_gossip.specs.Rows.{Rows, rows_after, blank_rows}
 
 -- equal rows
 pub same-rows : (a b : Rows) → a.primary ≡ b.primary → a.secondary ≡ b.secondary → a.tertiary ≡ b.tertiary → a ≡ b
@@ -33,14 +30,3 @@ blank-opening loc n p =
     let square : flat_map (λ q. map {B = ℕ} (λ r. 0) (range_with_len 0 n)) (range_with_len 0 n) ≡ replicate (n * n) 0 = ap (λ (xs : List ℕ). flat_map (λ q. xs) (range_with_len 0 n)) row ∙ zero-blocks 0 n n in
     same-rows (blank_rows n) (rows_after loc n [] p) (sym row) (sym square)
     (sym (ap (λ (xs : List ℕ). flat_map (λ q. xs) (range_with_len 0 n)) square ∙ zero-blocks 0 n (n * n) ∙ (let e : n * (n * n) ≡ n * n * n = sym (mul_assoc n n n) in ap (λ k. replicate {A = ℕ} k 0) e)))
-
--- the rows of one of all processes
-pub row-of-all : (alphabet : DistributedAlphabet) (w : List ℕ) (x : ℕ) (d : Rows) → x < alphabet.processes → get_or (all_rows_after alphabet w) x d ≡ rows_after (loc_of alphabet) alphabet.processes w x
-row-of-all alphabet w x d l = get_or-map-range_with_len (rows_after (loc_of alphabet) alphabet.processes w) 0 alphabet.processes x x d l (omega arith)
-
-pub length-all : (alphabet : DistributedAlphabet) (w : List ℕ) → length (all_rows_after alphabet w) ≡ alphabet.processes
-length-all alphabet w = length-map-range_with_len (rows_after (loc_of alphabet) alphabet.processes w) 0 alphabet.processes
-
--- and their length
-pub length-primary : (loc : ℕ → List ℕ) (n : ℕ) (w : List ℕ) (x : ℕ) → length (rows_after loc n w x).primary ≡ n
-length-primary loc n w x = length-map-range_with_len (ids loc n w (length w) x).primary 0 n

@@ -7,7 +7,7 @@ use Rattle.za_gossip.specs.declared.gossip.Gossip.TheInside.{Inside}
 use Rattle.za_gossip.specs.declared.gossip.Level.{Level}
 use Rattle.za_gossip.specs.declared.gossip.Level.TheVariants.{Primary, Secondary, Tertiary}
 use Rattle.za_gossip.specs.Rows.{Rows, AreShaped}
-use Rattle.za_gossip.specs.Inside.{rows_in}
+use Rattle.za_gossip.specs.Private.Inside.{rows_in}
 use Rattle.za_gossip.proofs.LevelRows.{width}
 
 -- the row of a level

@@ -1,6 +1,5 @@
 pub mod Rows
-pub mod Inside
-pub mod Levels
-pub mod Sources
 pub mod Updates
+pub mod Renaming
 pub mod Laws
+pub mod Private

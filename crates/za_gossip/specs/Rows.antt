@@ -25,14 +25,10 @@ rows_of processes known =
 abbrev pub rows_after : (ℕ → List ℕ) → ℕ → List ℕ → ℕ → Rows
 rows_after loc processes w p = rows_of processes (ids loc processes w (length w) p)
 
--- the rows of all processes after the word
-abbrev pub all_rows_after : DistributedAlphabet → List ℕ → List Rows
-all_rows_after alphabet w = map (rows_after (loc_of alphabet) alphabet.processes w) (range_with_len 0 alphabet.processes)
-
--- the word is over the alphabet, and these are the rows of the processes of a letter after it, in their order
-pub record AreRowsAfter (alphabet : DistributedAlphabet) (w : List ℕ) (a : ℕ) (inputs : List Rows) : Type 0 where
+-- the word is over the alphabet, and these are the rows of the processes xs after it, in their order
+pub record AreRowsAfter (alphabet : DistributedAlphabet) (w xs : List ℕ) (inputs : List Rows) : Type 0 where
   pub word : IsWord (length alphabet.letters) w
-  pub rows : inputs ≡ map (rows_after (loc_of alphabet) alphabet.processes w) (loc_of alphabet a)
+  pub rows : inputs ≡ map (rows_after (loc_of alphabet) alphabet.processes w) xs
 
 -- no event is known
 abbrev pub blank_rows : ℕ → Rows

@@ -2,7 +2,8 @@ ghost use Rattle.std.specs.Prelude.{◌≡◌, ℕ, ◌+◌, ◌*◌, ◌==◌, 
 ghost use Rattle.std.specs.List.{range_with_len, list_any};
 ghost use Rattle.za_ids.specs.Numbers.{event_numbers};
 ghost use Rattle.za_gossip.specs.Rows.{rows_after, blank_rows, block_at, AreShaped};
-ghost use Rattle.za_gossip.specs.Levels.{level_of};
+ghost use Rattle.za_gossip.specs.Updates.{knows_number};
+ghost use Rattle.za_gossip.specs.Private.Levels.{level_of};
 
 use std::alloc::Global;
 use std::marker::Model;
@@ -29,7 +30,7 @@ impl Model for Gossip {
 
     ghost Value = { Rows };
 
-    ghost use Rattle.za_gossip.specs.Inside.{rows_in, AreShapedInside};
+    ghost use Rattle.za_gossip.specs.Private.Inside.{rows_in, AreShapedInside};
 
     ghost view = { rows_in };
 
@@ -109,7 +110,7 @@ impl Gossip {
     pub(crate) fn knows(&self, n: usize, r: usize, event: EventId) -> bool
         requires shape { length self.now.primary ≡ n }
         requires process { r < n }
-        ensures { result ≡ (event.0 == 0 || list_any (λ q. slice_index self.now.secondary (q * n + r) == event.0) (range_with_len 0 n)) }
+        ensures { result ≡ knows_number n (λ q r. slice_index self.now.secondary (q * n + r)) r event.0 }
     {
         event == NO_EVENT || has_for(n, self.secondary.as_slice(), r, event)
     }
@@ -119,7 +120,8 @@ impl Gossip {
 fn has_for(n: usize, secondary: &[EventId], r: usize, event: EventId) -> bool
     requires shape { length secondary.now ≡ n * n }
     requires process { r < n }
-    ensures { result ≡ list_any (λ q. slice_index (event_numbers secondary.now) (q * n + r) == event.0) (range_with_len 0 n) }
+    ensures { let has_at = λ (q : ℕ). slice_index (event_numbers secondary.now) (q * n + r) == event.0 in
+        result ≡ list_any has_at (range_with_len 0 n) }
 {
     for q in 0..n {
         if secondary[q * n + r] == event {

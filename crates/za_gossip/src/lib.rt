@@ -10,6 +10,6 @@ mod tests;
 mod updating;
 
 pub use gossip::Gossip;
-pub use laws::{numbers_after_an_event, numbers_suffice};
+pub use laws::{numbers_after_an_event, numbers_suffice, only_equality_is_tested};
 pub use news::newest;
 pub use updating::advance;

@@ -14,10 +14,12 @@ use za_alpha::{Alphabet, Letter};
 pub fn newest(alphabet: &Alphabet, a: Letter, inputs: &[Gossip], r: usize) -> usize
     requires letter { a.0 < length alphabet.now.letters }
     requires process { r < alphabet.now.processes }
-    requires rows { (w : List ℕ) × AreRowsAfter alphabet.now w a.0 inputs.now }
+    requires rows { (w : List ℕ) × AreRowsAfter alphabet.now w (loc_of alphabet.now a.0) inputs.now }
     ensures within { result < length inputs.now }
-    ensures best { (w : List ℕ) → AreRowsAfter alphabet.now w a.0 inputs.now →
-        slice_get (loc_of alphabet.now a.0) result ≡ Some (best (participants (loc_of alphabet.now) w) alphabet.now.processes (length w) (loc_of alphabet.now a.0) r) }
+    ensures best { (w : List ℕ) → AreRowsAfter alphabet.now w (loc_of alphabet.now a.0) inputs.now →
+        let who = participants (loc_of alphabet.now) w in
+        let xs = loc_of alphabet.now a.0 in
+        slice_get xs result ≡ Some (best who alphabet.now.processes (length w) xs r) }
 {
     // A participant whose latest event of r another one doesn't know knows all that the other does
     // of r, so one pass finds who knows most.

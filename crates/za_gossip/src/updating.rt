@@ -1,12 +1,13 @@
-ghost use Rattle.std.specs.Prelude.{◌≡◌, ℕ, ◌*◌, ◌<◌, ◌≤◌, All, List, [], ◌∷◌, ◌++◌, length, map, slice_index_or, Some, None, IsTrue};
+ghost use Rattle.std.specs.Prelude.{◌≡◌, ℕ, ◌+◌, ◌*◌, ◌<◌, ◌≤◌, All, List, [], ◌∷◌, ◌++◌, Some, None, IsTrue};
+ghost use Rattle.std.specs.Prelude.{length, map, slice_index, slice_index_or};
 ghost use Rattle.std.specs.List.{range_with_len};
 ghost use Rattle.za_alpha.specs.Words.{has};
 ghost use Rattle.za_alpha.specs.Alphabet.{loc_of};
 ghost use Rattle.za_order.specs.Labels.{label};
 ghost use Rattle.za_ids.specs.Numbers.{event_numbers};
 ghost use Rattle.za_gossip.specs.Rows.{rows_after, AreRowsAfter};
-ghost use Rattle.za_gossip.specs.Levels.{level_of};
-ghost use Rattle.za_gossip.specs.Sources.{IsSource, joined_entry};
+ghost use Rattle.za_gossip.specs.Private.Levels.{level_of};
+ghost use Rattle.za_gossip.specs.Private.Sources.{IsSource, source_entry, joined_entry};
 
 use crate::gossip::{Gossip, Level};
 use crate::news::newest;
@@ -21,11 +22,12 @@ use za_ids::{EventId, id_of, least_free};
 /// tertiary entries.
 pub fn advance(alphabet: &Alphabet, a: Letter, inputs: &[Gossip], into: &mut Gossip) -> u16
     requires letter { a.0 < length alphabet.now.letters }
-    requires rows { (w : List ℕ) × AreRowsAfter alphabet.now w a.0 inputs.now }
+    requires rows { (w : List ℕ) × AreRowsAfter alphabet.now w (loc_of alphabet.now a.0) inputs.now }
     requires shape { length into.old.primary ≡ alphabet.now.processes }
-    ensures label { (w : List ℕ) → AreRowsAfter alphabet.now w a.0 inputs.now →
+    ensures label { (w : List ℕ) → AreRowsAfter alphabet.now w (loc_of alphabet.now a.0) inputs.now →
         result ≡ label (loc_of alphabet.now) alphabet.now.processes (w ++ a.0 ∷ []) (length w) }
-    ensures rows { (w : List ℕ) → AreRowsAfter alphabet.now w a.0 inputs.now → (x : ℕ) → IsTrue (has (loc_of alphabet.now a.0) x) →
+    ensures rows { (w : List ℕ) → AreRowsAfter alphabet.now w (loc_of alphabet.now a.0) inputs.now →
+        (x : ℕ) → IsTrue (has (loc_of alphabet.now a.0) x) →
         into.new ≡ rows_after (loc_of alphabet.now) alphabet.now.processes (w ++ a.0 ∷ []) x }
 {
     let n = alphabet.processes();
@@ -34,6 +36,7 @@ pub fn advance(alphabet: &Alphabet, a: Letter, inputs: &[Gossip], into: &mut Gos
     let sources = sources(alphabet, a, inputs);
     write_row(
         Level::Primary,
+        n,
         sources.as_slice(),
         inputs,
         event.as_slice(),
@@ -41,6 +44,7 @@ pub fn advance(alphabet: &Alphabet, a: Letter, inputs: &[Gossip], into: &mut Gos
     );
     write_row(
         Level::Secondary,
+        n,
         sources.as_slice(),
         inputs,
         into.primary.as_slice(),
@@ -48,6 +52,7 @@ pub fn advance(alphabet: &Alphabet, a: Letter, inputs: &[Gossip], into: &mut Gos
     );
     write_row(
         Level::Tertiary,
+        n,
         sources.as_slice(),
         inputs,
         into.secondary.as_slice(),
@@ -61,10 +66,11 @@ pub fn advance(alphabet: &Alphabet, a: Letter, inputs: &[Gossip], into: &mut Gos
 /// latest news of it.
 fn sources(alphabet: &Alphabet, a: Letter, inputs: &[Gossip]) -> [Option<usize>; MOST_PROCESSES]
     requires letter { a.0 < length alphabet.now.letters }
-    requires rows { (w : List ℕ) × AreRowsAfter alphabet.now w a.0 inputs.now }
+    requires rows { (w : List ℕ) × AreRowsAfter alphabet.now w (loc_of alphabet.now a.0) inputs.now }
     ensures room { alphabet.now.processes ≤ length result }
     ensures within { (q b : ℕ) → slice_index_or result q None ≡ Some b → b < length inputs.now }
-    ensures sources { (w : List ℕ) → AreRowsAfter alphabet.now w a.0 inputs.now → (q : ℕ) → q < alphabet.now.processes → IsSource alphabet.now w a.0 q (slice_index_or result q None) }
+    ensures sources { (w : List ℕ) → AreRowsAfter alphabet.now w (loc_of alphabet.now a.0) inputs.now →
+        (q : ℕ) → q < alphabet.now.processes → IsSource alphabet.now w a.0 q (slice_index_or result q None) }
 {
     let participants = alphabet.loc(a);
     let mut sources = [None; MOST_PROCESSES];
@@ -76,42 +82,49 @@ fn sources(alphabet: &Alphabet, a: Letter, inputs: &[Gossip]) -> [Option<usize>;
     sources
 }
 
-/// The entry `i` of a row after the event. The row has a block for each process, as long as `own`,
-/// which is the block of each participant.
-fn entry_after(
+/// The block from `from` on of a row after the event: `own` where the source is none, and else what
+/// the input of the source has there.
+fn block_after<'a>(
     level: Level,
-    sources: &[Option<usize>],
-    inputs: &[Gossip],
-    own: &[EventId],
-    i: usize,
-) -> EventId
-    requires some_own { 0 < length own.now }
-    requires place { i < length sources.now * length own.now }
-    requires within { (q b : ℕ) → slice_index_or sources.now q None ≡ Some b → b < length inputs.now }
-    requires rows { All (λ rows. i < length (level_of level rows)) inputs.now }
-    ensures { result.0 ≡ joined_entry (event_numbers own.now) sources.now (map (level_of level) inputs.now) i }
+    source: Option<usize>,
+    inputs: &'a [Gossip],
+    own: &'a [EventId],
+    from: usize,
+) -> &'a [EventId]
+    requires within { (b : ℕ) → source ≡ Some b → b < length inputs.now }
+    requires rows { All (λ rows. from + length own.now ≤ length (level_of level rows)) inputs.now }
+    ensures long { length result.now ≡ length own.now }
+    ensures block { (j : ℕ) → j < length own.now → slice_index (event_numbers result.now) j
+        ≡ source_entry (slice_index (event_numbers own.now) j) source (map (level_of level) inputs.now) (from + j) }
 {
-    match sources[i / own.len()] {
-        None => own[i % own.len()],
-        Some(best) => inputs[best].entries(level)[i],
+    match source {
+        None => own,
+        Some(best) => &inputs[best].entries(level)[from..from + own.len()],
     }
 }
 
-/// Writes a row after the event.
+/// Writes a row after the event, block by block: the row has a block for each process, as long as
+/// `own`, which is the block of each participant.
 fn write_row(
     level: Level,
+    processes: usize,
     sources: &[Option<usize>],
     inputs: &[Gossip],
     own: &[EventId],
     into: &mut [EventId],
 )
-    requires some_own { 0 < length own.now }
-    requires blocks { length into.old ≤ length sources.now * length own.now }
+    requires blocks { length into.old ≡ processes * length own.now }
+    requires sources { processes ≤ length sources.now }
     requires within { (q b : ℕ) → slice_index_or sources.now q None ≡ Some b → b < length inputs.now }
     requires rows { All (λ rows. length into.old ≤ length (level_of level rows)) inputs.now }
-    ensures { event_numbers into.new ≡ map (joined_entry (event_numbers own.now) sources.now (map (level_of level) inputs.now)) (range_with_len 0 (length into.old)) }
+    ensures { let rows = map (level_of level) inputs.now in
+        event_numbers into.new
+        ≡ map (joined_entry (event_numbers own.now) sources.now rows) (range_with_len 0 (length into.old)) }
 {
-    for (i, entry) in into.iter_mut().enumerate() {
-        *entry = entry_after(level, sources, inputs, own, i);
+    let width = own.len();
+    for q in 0..processes {
+        let from = q * width;
+        let block = block_after(level, sources[q], inputs, own, from);
+        into[from..from + width].copy_from_slice(block);
     }
 }

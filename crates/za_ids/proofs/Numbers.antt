@@ -3,6 +3,7 @@ use Rattle.std.proofs.Common.{◌≡◌, ℕ, ◌+◌, ◌-◌, ◌*◌, ◌/◌
 use Rattle.std.proofs.Math.Nat.{mul_assoc, pow-le-pow_left}
 use Rattle.std.proofs.lemmas.Nat.{div-mul-add, mod-mul-add}
 use Rattle.std.proofs.lemmas.List.{length-map}
+use Rattle.za_alpha.specs.Limits.{most_processes}
 use Rattle.za_alpha.specs.Words.{has}
 use Rattle.za_order.specs.Labels.{number_of}
 use Rattle.za_order.proofs.Sets.{any-here, has-map}
@@ -23,7 +24,7 @@ pub number-label : (n a k v : ℕ) → k ≤ n ^ 3 → v ≡ number_of n a k →
 number-label n a k v l e = ap (λ x. x % (n ^ 3 + 1)) (above-none n a k v e) ∙ mod-mul-add a (n ^ 3 + 1) k (omega arith)
 
 -- the greatest cube
-pub cube-small : (n : ℕ) → n ≤ 6 → n ^ 3 ≤ 216
+pub cube-small : (n : ℕ) → n ≤ most_processes → n ^ 3 ≤ most_processes ^ 3
 cube-small n h = pow-le-pow_left h 3
 
 -- a list that has the numbers of the first m labels of a letter has m elements at least

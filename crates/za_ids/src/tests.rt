@@ -9,15 +9,15 @@ fn numbers_and_back(rt: HostRuntime) -> Result<(), Fail> {
         (1, 0, 1, 2),
         (2, 2, 0, 19),
         (4, 3, 0, 196),
-        (6, 31, 216, 6944),
+        (10, 127, 1000, 128128),
     ] {
         let id = id_of(n, Letter(letter), label);
         assert_eq!(rt; id, EventId(number));
         assert_eq!(rt; letter_of(n, id), Some(Letter(letter)));
         assert_eq!(rt; label_of(n, id), Some(label));
     }
-    assert_eq!(rt; letter_of(6, EventId(0)), None);
-    assert_eq!(rt; label_of(6, EventId(0)), None);
+    assert_eq!(rt; letter_of(10, EventId(0)), None);
+    assert_eq!(rt; label_of(10, EventId(0)), None);
     Ok(())
 }
 
@@ -38,5 +38,7 @@ fn least_label_that_is_free(rt: HostRuntime) -> Result<(), Fail> {
     ];
     assert_eq!(rt; least_free(2, a, &ids), 1);
     assert_eq!(rt; least_free(2, b, &ids), 2);
+    assert_eq!(rt; first_unmarked(&[true, true, false, true]), 2);
+    assert_eq!(rt; first_unmarked(&[true, true]), 2);
     Ok(())
 }

@@ -6,15 +6,16 @@ use Rattle.std.proofs.lemmas.List.{append-nil}
 use Rattle.std.proofs.lemmas.List.Elements.{All-nil, All-cons, All-append}
 use Rattle.za_alpha.specs.Words.{has}
 use Rattle.za_alpha.specs.Alphabet.{DistributedAlphabet, loc_of}
-use Rattle.za_script.specs.declared.fault.TheConstants.{MOST_SCRIPT_LETTERS}
+use Rattle.za_script.specs.Limits.{most_script_letters}
 use Rattle.za_alpha.specs.declared.word.Letter.{Letter}
 use Rattle.za_script.specs.ScriptLists.{script_of, total_of, AreScripts, IsLetterOf, FitAlphabet, add_fault}
 use Rattle.za_alpha.proofs.RowLemmas.{none_of_cond}
 use Rattle.za_script.proofs.Totals.{total_of-add, AreScripts-add}
-use Rattle.za_lang.specs.Reading.{AreAdded}
+use Rattle.za_lang.specs.Private.Gathering.{AreAdded}
 
 -- one letter more
-pub added_one : (alphabet : DistributedAlphabet) (old new : List (List ℕ)) (p a : ℕ) → p < length old → AreScripts old → total_of old < MOST_SCRIPT_LETTERS → a < length alphabet.letters → has (loc_of alphabet a) p ≡ true →
+pub added_one : (alphabet : DistributedAlphabet) (old new : List (List ℕ)) (p a : ℕ) → p < length old → AreScripts old → total_of old < most_script_letters →
+    a < length alphabet.letters → has (loc_of alphabet a) p ≡ true →
     new ≡ set old p (script_of old p ++ a ∷ []) → AreAdded alphabet old new p (a ∷ [])
 added_one alphabet old new p a inside limits room known own e =
     record {
@@ -45,7 +46,8 @@ set_twice (s ∷ old) zero x y = refl
 set_twice (s ∷ old) (suc p) x y = ap (λ xs. s ∷ xs) (set_twice old p x y)
 
 -- letters after letters
-pub added_more : (alphabet : DistributedAlphabet) (old mid new : List (List ℕ)) (p : ℕ) (us vs : List ℕ) → p < length old → AreAdded alphabet old mid p us → AreAdded alphabet mid new p vs → AreAdded alphabet old new p (us ++ vs)
+pub added_more : (alphabet : DistributedAlphabet) (old mid new : List (List ℕ)) (p : ℕ) (us vs : List ℕ) → p < length old → AreAdded alphabet old mid p us →
+    AreAdded alphabet mid new p vs → AreAdded alphabet old new p (us ++ vs)
 added_more alphabet old mid new p us vs inside first second =
     let there : script_of mid p ≡ script_of old p ++ us = ap (λ s. script_of s p) first.scripts ∙ get_or-set_same old p (script_of old p ++ us) [] inside in
     record {
@@ -63,15 +65,18 @@ pub added_length : (alphabet : DistributedAlphabet) (old new : List (List ℕ)) 
 added_length alphabet old new p us h = ap length h.scripts ∙ length-set old p (script_of old p ++ us)
 
 -- the script of p
-pub added_same : (alphabet : DistributedAlphabet) (old new : List (List ℕ)) (p : ℕ) (us : List ℕ) → p < length old → AreAdded alphabet old new p us → script_of new p ≡ script_of old p ++ us
+pub added_same : (alphabet : DistributedAlphabet) (old new : List (List ℕ)) (p : ℕ) (us : List ℕ) → p < length old → AreAdded alphabet old new p us →
+    script_of new p ≡ script_of old p ++ us
 added_same alphabet old new p us inside h = ap (λ s. script_of s p) h.scripts ∙ get_or-set_same old p (script_of old p ++ us) [] inside
 
 -- the script of another process
-pub added_other : (alphabet : DistributedAlphabet) (old new : List (List ℕ)) (p q : ℕ) (us : List ℕ) → q ≢ p → AreAdded alphabet old new p us → script_of new q ≡ script_of old q
+pub added_other : (alphabet : DistributedAlphabet) (old new : List (List ℕ)) (p q : ℕ) (us : List ℕ) → q ≢ p → AreAdded alphabet old new p us →
+    script_of new q ≡ script_of old q
 added_other alphabet old new p q us other h = ap (λ s. script_of s q) h.scripts ∙ get_or-set_other old p q (script_of old p ++ us) [] other
 
 -- the scripts fit as before
-pub added_fit : (alphabet : DistributedAlphabet) (old new : List (List ℕ)) (p : ℕ) (us : List ℕ) → p < length old → AreAdded alphabet old new p us → FitAlphabet alphabet old → FitAlphabet alphabet new
+pub added_fit : (alphabet : DistributedAlphabet) (old new : List (List ℕ)) (p : ℕ) (us : List ℕ) → p < length old → AreAdded alphabet old new p us →
+    FitAlphabet alphabet old → FitAlphabet alphabet new
 added_fit alphabet old new p us inside h fit =
     let size = added_length alphabet old new p us h in
     record {
@@ -87,8 +92,9 @@ added_fit alphabet old new p us inside h fit =
     }
 
 -- a letter that can be appended
-pub added_right : (alphabet : DistributedAlphabet) (old : List (List ℕ)) (p : ℕ) (a : Letter) → add_fault alphabet old p a ≡ None → (has (loc_of alphabet a.0) p ≡ true) × (eqb (total_of old) MOST_SCRIPT_LETTERS ≡ false)
+pub added_right : (alphabet : DistributedAlphabet) (old : List (List ℕ)) (p : ℕ) (a : Letter) → add_fault alphabet old p a ≡ None →
+    (has (loc_of alphabet a.0) p ≡ true) × (eqb (total_of old) most_script_letters ≡ false)
 added_right alphabet old p a none =
     let own = none_of_cond (not (has (loc_of alphabet a.0) p)) _ _ none in
-    let room = none_of_cond (eqb (total_of old) MOST_SCRIPT_LETTERS) _ _ own.1 in
+    let room = none_of_cond (eqb (total_of old) most_script_letters) _ _ own.1 in
     (not-false (has (loc_of alphabet a.0) p) own.0, room.0)

@@ -3,10 +3,11 @@ use Rattle.std.proofs.Common.{◌≡◌, ◌∙◌, ap, sym, ℕ, ◌+◌, zero,
 use Rattle.std.proofs.lemmas.List.{append-nil, take-append-drop}
 use Rattle.za_text.specs.Lines.{RawLine}
 use Rattle.za_lang.specs.Documents.{said, words_in, line_fault, end_fault, faults_from}
-use Rattle.za_lang.specs.Reading.{more}
+use Rattle.za_lang.specs.Private.Gathering.{more}
 use Rattle.za_lang.proofs.Saying.{said_more}
 
-cut_at : (all : List RawLine) (n : ℕ) (line : RawLine) (rest : List RawLine) → drop n all ≡ line ∷ rest → (drop (suc n) all ≡ rest) × (take (suc n) all ≡ take n all ++ line ∷ [])
+cut_at : (all : List RawLine) (n : ℕ) (line : RawLine) (rest : List RawLine) → drop n all ≡ line ∷ rest →
+    (drop (suc n) all ≡ rest) × (take (suc n) all ≡ take n all ++ line ∷ [])
 cut_at [] zero line rest h = absurd (cc)
 cut_at [] (suc n) line rest h = absurd (cc)
 cut_at (x ∷ xs) zero line rest h = ((cc), (cc))
@@ -22,7 +23,8 @@ pub begins : (all : List RawLine) → AreRead all 0 all
 begins all = record { left_are = refl; faults = refl; size = refl }
 
 -- a right line
-pub goes_on : (all : List RawLine) (n m : ℕ) (left : List RawLine) (line : RawLine) (rest : List RawLine) → AreRead all n left → left ≡ line ∷ rest → line_fault (said (take n all)) line ≡ None → m ≡ n + 1 →
+pub goes_on : (all : List RawLine) (n m : ℕ) (left : List RawLine) (line : RawLine) (rest : List RawLine) → AreRead all n left → left ≡ line ∷ rest →
+    line_fault (said (take n all)) line ≡ None → m ≡ n + 1 →
     AreRead all m rest × (said (take m all) ≡ more (said (take n all)) (words_in line))
 goes_on all n m left line rest h e right step =
     let cut = cut_at all n line rest (h.left_are ∙ e) in
@@ -38,7 +40,8 @@ goes_on all n m left line rest h e right step =
     )
 
 -- no line is left
-pub ends : (all : List RawLine) (n : ℕ) (left : List RawLine) → AreRead all n left → left ≡ [] → (faults_from [] all ≡ end_fault (said all).place n) × (take n all ≡ all)
+pub ends : (all : List RawLine) (n : ℕ) (left : List RawLine) → AreRead all n left → left ≡ [] →
+    (faults_from [] all ≡ end_fault (said all).place n) × (take n all ≡ all)
 ends all n left h e =
     let split : take n all ++ drop n all ≡ all = take-append-drop n all in
     let none : drop n all ≡ [] = h.left_are ∙ e in

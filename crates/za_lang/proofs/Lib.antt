@@ -1,5 +1,3 @@
-pub mod Options
-pub mod LetterRows
 pub mod Places
 pub mod Added
 pub mod Marks
@@ -9,6 +7,6 @@ pub mod Opening
 pub mod Saying
 pub mod Faults
 pub mod Whole
-pub mod Showing
-pub mod Cells
+pub mod Keeping
+pub mod Sound
 mod Examples

@@ -5,8 +5,8 @@ use Rattle.std.proofs.lemmas.Bool.Decides.{nat_tests}
 use Rattle.std.proofs.lemmas.List.{append-nil, ext_get_or, get_or-replicate, length-replicate}
 use Rattle.std.proofs.lemmas.List.FromFn.{length-map-range_with_len, get_or-map-range_with_len}
 use Rattle.za_alpha.specs.Words.{has}
-use Rattle.za_lang.specs.Documents.{accepting_of}
-use Rattle.za_lang.specs.Reading.{marked}
+use Rattle.za_lang.specs.Documents.{acceptance_of}
+use Rattle.za_lang.specs.Private.Gathering.{marked}
 
 has_more : (qs : List ℕ) (q i : ℕ) → has (qs ++ q ∷ []) i ≡ (has qs i || eqb q i)
 has_more [] q i = grind (arith, nat_tests)
@@ -20,12 +20,12 @@ or_false : (b c : Bool) → c ≡ false → (b || c) ≡ b
 or_false true c h = refl
 or_false false c h = h
 
-marked_one : (states : ℕ) (qs : List ℕ) (q : ℕ) → set (accepting_of states qs) q true ≡ accepting_of states (qs ++ q ∷ [])
+marked_one : (states : ℕ) (qs : List ℕ) (q : ℕ) → set (acceptance_of states qs) q true ≡ acceptance_of states (qs ++ q ∷ [])
 marked_one states qs q =
-    let old = accepting_of states qs in
+    let old = acceptance_of states qs in
     let size : length old ≡ states = length-map-range_with_len (has qs) 0 states in
-    let more : length (accepting_of states (qs ++ q ∷ [])) ≡ states = length-map-range_with_len (has (qs ++ q ∷ [])) 0 states in
-    ext_get_or false (set old q true) (accepting_of states (qs ++ q ∷ [])) (length-set old q true ∙ size ∙ sym more)
+    let more : length (acceptance_of states (qs ++ q ∷ [])) ≡ states = length-map-range_with_len (has (qs ++ q ∷ [])) 0 states in
+    ext_get_or false (set old q true) (acceptance_of states (qs ++ q ∷ [])) (length-set old q true ∙ size ∙ sym more)
     (λ i h.
     let same = length-set old q true in
     let below : i < states = omega arith in
@@ -41,17 +41,17 @@ marked_one states qs q =
     ])
 
 -- the marked states are those named before and these
-pub marked_all : (states : ℕ) (before qs : List ℕ) → marked (accepting_of states before) qs ≡ accepting_of states (before ++ qs)
-marked_all states before [] = ap (accepting_of states) (sym (append-nil before))
+pub marked_all : (states : ℕ) (before qs : List ℕ) → marked (acceptance_of states before) qs ≡ acceptance_of states (before ++ qs)
+marked_all states before [] = ap (acceptance_of states) (sym (append-nil before))
 marked_all states before (q ∷ qs) =
-    ap (λ bs. marked bs qs) (marked_one states before q) ∙ marked_all states (before ++ q ∷ []) qs ∙ ap (accepting_of states) (append_assoc before (q ∷ []) qs)
+    ap (λ bs. marked bs qs) (marked_one states before q) ∙ marked_all states (before ++ q ∷ []) qs ∙ ap (acceptance_of states) (append_assoc before (q ∷ []) qs)
 
 -- none is named
-pub marked_none : (states : ℕ) → accepting_of states [] ≡ replicate states false
+pub marked_none : (states : ℕ) → acceptance_of states [] ≡ replicate states false
 marked_none states =
-    let size : length (accepting_of states []) ≡ states = length-map-range_with_len (has []) 0 states in
+    let size : length (acceptance_of states []) ≡ states = length-map-range_with_len (has []) 0 states in
     let more : length (replicate states false) ≡ states = length-replicate states false in
-    ext_get_or false (accepting_of states []) (replicate states false) (size ∙ sym more)
+    ext_get_or false (acceptance_of states []) (replicate states false) (size ∙ sym more)
     (λ i h.
     let below : i < states = omega arith in
     get_or-map-range_with_len (has []) 0 states i i false below (omega arith) ∙ sym (get_or-replicate states i false false below))

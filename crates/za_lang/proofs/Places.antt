@@ -8,7 +8,8 @@ found_below : (t : NamedLetter → Bool) (k : ℕ) (ls : List NamedLetter) (a : 
 found_below t k [] a h = absurd (cc)
 found_below t k (l ∷ ls) a h = found_at (t l) k ls a h (found_below t (k + 1) ls a)
   where
-    found_at : (b : Bool) (k : ℕ) (ls : List NamedLetter) (a : ℕ) → cond b (Some k) (position_from t (k + 1) ls) ≡ Some a → (position_from t (k + 1) ls ≡ Some a → a < k + 1 + length ls) → a < k + length (l ∷ ls)
+    found_at : (b : Bool) (k : ℕ) (ls : List NamedLetter) (a : ℕ) → cond b (Some k) (position_from t (k + 1) ls) ≡ Some a →
+        (position_from t (k + 1) ls ≡ Some a → a < k + 1 + length ls) → a < k + length (l ∷ ls)
     found_at true k ls a h more = let e : k ≡ a = cc in omega arith
     found_at false k ls a h more = let r = more h in omega arith
 

@@ -5,8 +5,8 @@ use Rattle.std.proofs.lemmas.List.Sums.{fold-append}
 use Rattle.std.proofs.lemmas.List.Concat.{flat_map-append}
 use Rattle.za_text.specs.Lines.{RawLine}
 use Rattle.za_lang.specs.Documents.{Said, said, words_in, place_by, place_after, processes_by, processes_in, letters_by, letters_in, states_by, states_in, start_by, start_in, accepts_by, accepts_in, rows_by, rows_from, steps_by, steps_from}
-use Rattle.za_lang.specs.Reading.{more}
-use Rattle.za_lang.specs.Shown.{nothing}
+use Rattle.za_lang.specs.Private.Gathering.{more}
+use Rattle.za_lang.specs.Private.Reading.{nothing}
 
 abbrev more_of : Said → List (List ℕ) → Said
 more_of s ws = record {
@@ -30,14 +30,16 @@ letters-snoc ls line = flat_map-append _ ls (line ∷ []) ∙ simp append-nil
 accepts-snoc : (ls : List RawLine) (line : RawLine) → accepts_in (ls ++ line ∷ []) ≡ accepts_in ls ++ accepts_by (words_in line)
 accepts-snoc ls line = flat_map-append _ ls (line ∷ []) ∙ simp append-nil
 
-rows-snoc : (before ls : List RawLine) (line : RawLine) → rows_from before (ls ++ line ∷ []) ≡ rows_from before ls ++ rows_by (letters_in (before ++ ls)) (words_in line)
+rows-snoc : (before ls : List RawLine) (line : RawLine) →
+    rows_from before (ls ++ line ∷ []) ≡ rows_from before ls ++ rows_by (letters_in (before ++ ls)) (words_in line)
 rows-snoc before [] line = simp append-nil
 rows-snoc before (l ∷ ls) line =
     let here = rows_by (letters_in before) (words_in l) in
     let later = rows-snoc (before ++ l ∷ []) ls line in
     let e : (before ++ l ∷ []) ++ ls ≡ before ++ l ∷ ls = append_assoc before (l ∷ []) ls in rw later (rw e (sym (append_assoc here _ _)))
 
-steps-snoc : (before ls : List RawLine) (line : RawLine) → steps_from before (ls ++ line ∷ []) ≡ steps_from before ls ++ steps_by (letters_in (before ++ ls)) (words_in line)
+steps-snoc : (before ls : List RawLine) (line : RawLine) →
+    steps_from before (ls ++ line ∷ []) ≡ steps_from before ls ++ steps_by (letters_in (before ++ ls)) (words_in line)
 steps-snoc before [] line = simp append-nil
 steps-snoc before (l ∷ ls) line =
     let here = steps_by (letters_in before) (words_in l) in

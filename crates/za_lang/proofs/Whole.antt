@@ -1,30 +1,24 @@
 -- A job that has all that the lines say is the job gathered from them.
-use Rattle.std.proofs.Common.{◌≡◌, ◌∙◌, ℕ, ◌*◌, ◌/◌, ◌%◌, ◌<◌, List, [], length, map, sym, ap, arith, Bool, Option, None}
+use Rattle.std.proofs.Common.{◌≡◌, ◌∙◌, ℕ, ◌<◌, List, [], length, map, sym, ap, arith, Bool, Option}
 use Rattle.std.specs.List.{range_with_len}
 use Rattle.std.proofs.lemmas.List.{ext_get_or}
 use Rattle.std.proofs.lemmas.List.FromFn.{length-map-range_with_len, get_or-map-range_with_len}
 use Rattle.za_alpha.specs.Alphabet.{DistributedAlphabet, NamedLetter}
-use Rattle.za_dfa.specs.Rows.{target_in}
-use Rattle.za_lang.specs.Langs.{PartialDfa}
+use Rattle.za_dfa.specs.Rows.{cells_of}
+use Rattle.za_dfa.specs.Partials.{PartialDfa}
 use Rattle.za_lang.specs.Jobs.{JobData, IsJob}
-use Rattle.za_lang.specs.Documents.{Said, targets_of_rows, lang_said, scripts_said, job_said, joined}
-use Rattle.za_lang.specs.Reading.{Tells}
+use Rattle.za_lang.specs.Documents.{Said, lang_said, scripts_said, job_said, script_of_steps}
+use Rattle.za_lang.specs.Private.Gathering.{Tells}
 
-targets_told : (job : JobData) (s : Said) → IsJob job → Tells job s → job.lang.targets ≡ targets_of_rows s.states (length s.letters) s.rows
-targets_told job s whole h =
-    let letters = length s.letters in
-    let n = s.states * letters in
-    let f : ℕ → Option ℕ = λ i. target_in s.rows (i / letters) (i % letters) in
-    let size : length job.lang.targets ≡ n = whole.lang.targets_length ∙ ap (λ m. m * length job.lang.alphabet.letters) h.states ∙ ap (λ (ls : List NamedLetter). s.states * length ls) h.letters in
-    ext_get_or None job.lang.targets (map f (range_with_len 0 n)) (size ∙ sym (length-map-range_with_len f 0 n))
-    (λ i k. let below : i < n = omega arith in h.rows.targets i ∙ sym (get_or-map-range_with_len f 0 n i i None below (omega arith)))
+targets_told : (job : JobData) (s : Said) → Tells job s → job.lang.targets ≡ (lang_said s).targets
+targets_told job s h = h.rows.cells ∙ ap (λ m. cells_of m (length job.lang.alphabet.letters) s.rows) h.states ∙ ap (λ (ls : List NamedLetter). cells_of s.states (length ls) s.rows) h.letters
 
 scripts_told : (job : JobData) (s : Said) → IsJob job → Tells job s → job.scripts ≡ scripts_said s
 scripts_told job s whole h =
     let n = s.processes in
     let size : length job.scripts ≡ n = whole.fit.processes ∙ h.processes in
-    ext_get_or [] job.scripts (map (joined s.steps) (range_with_len 0 n)) (size ∙ sym (length-map-range_with_len (joined s.steps) 0 n))
-    (λ i k. let below : i < n = omega arith in h.steps i below ∙ sym (get_or-map-range_with_len (joined s.steps) 0 n i i [] below (omega arith)))
+    ext_get_or [] job.scripts (map (script_of_steps s.steps) (range_with_len 0 n)) (size ∙ sym (length-map-range_with_len (script_of_steps s.steps) 0 n))
+    (λ i k. let below : i < n = omega arith in h.steps i below ∙ sym (get_or-map-range_with_len (script_of_steps s.steps) 0 n i i [] below (omega arith)))
 
 pub told_whole : (job : JobData) (s : Said) → IsJob job → Tells job s → job ≡ job_said s
 told_whole job s whole h =
@@ -32,7 +26,7 @@ told_whole job s whole h =
     let lang_of : DistributedAlphabet → ℕ → ℕ → List Bool → List (Option ℕ) → PartialDfa = λ a n q bs ts. record { alphabet = a; states = n; start = q; accepting = bs; targets = ts } in
     let of : PartialDfa → List (List ℕ) → JobData = λ l ss. record { lang = l; scripts = ss } in
     let alphabet : job.lang.alphabet ≡ alphabet_of s.processes s.letters = ap (λ n. alphabet_of n job.lang.alphabet.letters) h.processes ∙ ap (alphabet_of s.processes) h.letters in
-    let targets = targets_told job s whole h in
+    let targets = targets_told job s h in
     let scripts = scripts_told job s whole h in
     let states = h.states in
     let start = h.start in

@@ -1,10 +1,10 @@
 -- Documents: what their lines say, the first wrong line, and the job that is gathered from the lines.
-use Rattle.std.specs.Prelude.{ℕ, ◌+◌, ◌/◌, ◌%◌, ◌*◌, ◌==◌, ◌++◌, not, Bool, List, [], ◌∷◌, length, map, filter, Option, Some, None, if◌then◌else◌, fold, unwrap_or}
+use Rattle.std.specs.Prelude.{ℕ, ◌+◌, ◌==◌, ◌++◌, not, Bool, List, [], ◌∷◌, length, map, filter, Option, Some, None, if◌then◌else◌, fold, unwrap_or}
 use Rattle.std.specs.List.{list_all, flat_map, filter_map, range_with_len}
 use Rattle.std.specs.Option.{option_or, option_map}
 use Rattle.za_text.specs.Lines.{RawLine, lines_of, is_allowed}
 use Rattle.za_text.specs.Words.{words_of}
-use Rattle.za_text.specs.Numbers.{number_of}
+use Rattle.za_text.specs.Numbers.{numeral_value}
 use Rattle.za_text.specs.declared.kind.Kind.{Kind}
 use Rattle.za_text.specs.declared.kind.Kind.TheVariants.{Cut, BadByte, OutOfOrder, NoEnd}
 use Rattle.za_text.specs.declared.kind.TextFault.{TextFault}
@@ -12,12 +12,12 @@ use Rattle.za_alpha.specs.Words.{has}
 use Rattle.za_alpha.specs.Rows.{set_of}
 use Rattle.za_alpha.specs.Alphabet.{NamedLetter, place_of}
 use Rattle.za_dfa.specs.declared.rows.Row as declared_row
-use Rattle.za_dfa.specs.Rows.{target_in}
+use Rattle.za_dfa.specs.Partials.{PartialDfa}
+use Rattle.za_dfa.specs.Rows.{cells_of}
 use Rattle.za_lang.specs.declared.order.Head.{Head}
 use Rattle.za_lang.specs.declared.order.Head.TheVariants.{Zla, Processes, Letter, States, Start, Accept, Row, Script, End, Other}
 use Rattle.za_lang.specs.declared.order.Place.{Place}
 use Rattle.za_lang.specs.declared.order.Place.TheVariants.{AtHeader, AfterEnd}
-use Rattle.za_lang.specs.Langs.{PartialDfa}
 use Rattle.za_lang.specs.Jobs.{JobData}
 use Rattle.za_lang.specs.Order.{head_of, next_place, order_fault}
 use Rattle.za_lang.specs.Tests.{header_line_fault, processes_line_fault, letter_line_fault, states_line_fault, start_line_fault, accept_line_fault, row_line_fault, script_line_fault, end_line_fault}
@@ -39,7 +39,7 @@ place_after lines = fold (λ place line. place_by place (words_in line)) AtHeade
 -- the number that words begin with
 abbrev pub first_number : List (List ℕ) → Option ℕ
 first_number [] = None
-first_number (word ∷ words) = number_of word
+first_number (word ∷ words) = numeral_value word
 
 -- the number of processes that a line says, and else that said before
 abbrev pub processes_said : ℕ → Head → List (List ℕ) → ℕ
@@ -55,7 +55,7 @@ processes_in lines = fold (λ n line. processes_by n (words_in line)) 0 lines
 
 -- a letter: its name, and the set of the processes that are named
 abbrev pub letter_of : List ℕ → List (List ℕ) → NamedLetter
-letter_of name processes = record { name = name; loc = set_of (filter_map number_of processes) }
+letter_of name processes = record { name = name; loc = set_of (filter_map numeral_value processes) }
 
 -- the letter that a line says
 abbrev pub letters_said : Head → List (List ℕ) → List NamedLetter
@@ -96,7 +96,7 @@ start_in lines = fold (λ q line. start_by q (words_in line)) 0 lines
 
 -- the accepting states that a line says
 abbrev pub accepts_said : Head → List (List ℕ) → List ℕ
-accepts_said Accept words = filter_map number_of words
+accepts_said Accept words = filter_map numeral_value words
 accepts_said _ _ = []
 
 abbrev pub accepts_by : List (List ℕ) → List ℕ
@@ -114,7 +114,8 @@ row_of _ _ _ = []
 
 -- the row that a line says over these letters
 abbrev pub rows_said : List NamedLetter → Head → List (List ℕ) → List declared_row.Row
-rows_said letters Row (from ∷ name ∷ to ∷ words) = row_of (number_of from) (place_of letters name) (number_of to)
+rows_said letters Row (from ∷ name ∷ to ∷ words) =
+    row_of (numeral_value from) (place_of letters name) (numeral_value to)
 rows_said letters _ _ = []
 
 abbrev pub rows_by : List NamedLetter → List (List ℕ) → List declared_row.Row
@@ -127,8 +128,8 @@ rows_from before [] = []
 rows_from before (line ∷ lines) = rows_by (letters_in before) (words_in line) ++ rows_from (before ++ line ∷ []) lines
 
 -- the rows of all row lines
-abbrev pub rows_in : List RawLine → List declared_row.Row
-rows_in lines = rows_from [] lines
+abbrev pub table_rows_in : List RawLine → List declared_row.Row
+table_rows_in lines = rows_from [] lines
 
 -- a letter of a script: the process, and the letter's number
 pub record Step : Type 0 where
@@ -136,7 +137,8 @@ pub record Step : Type 0 where
   pub letter : ℕ
 
 abbrev pub named_step : List NamedLetter → ℕ → List ℕ → Option Step
-named_step letters process name = option_map (λ (a : ℕ). record { process = process; letter = a }) (place_of letters name)
+named_step letters process name =
+    option_map (λ (a : ℕ). record { process = process; letter = a }) (place_of letters name)
 
 abbrev pub steps_of : List NamedLetter → Option ℕ → List (List ℕ) → List Step
 steps_of letters None names = []
@@ -144,7 +146,7 @@ steps_of letters (Some process) names = filter_map (named_step letters process) 
 
 -- the letters that a script line says, over these letters
 abbrev pub steps_said : List NamedLetter → Head → List (List ℕ) → List Step
-steps_said letters Script (word ∷ names) = steps_of letters (number_of word) names
+steps_said letters Script (word ∷ names) = steps_of letters (numeral_value word) names
 steps_said letters _ _ = []
 
 abbrev pub steps_by : List NamedLetter → List (List ℕ) → List Step
@@ -154,7 +156,8 @@ steps_by letters (word ∷ words) = steps_said letters (head_of word) words
 -- the script letters of lines that come after others, each over the letters before it
 abbrev pub steps_from : List RawLine → List RawLine → List Step
 steps_from before [] = []
-steps_from before (line ∷ lines) = steps_by (letters_in before) (words_in line) ++ steps_from (before ++ line ∷ []) lines
+steps_from before (line ∷ lines) =
+    steps_by (letters_in before) (words_in line) ++ steps_from (before ++ line ∷ []) lines
 
 -- the letters of all script lines, in order
 abbrev pub steps_in : List RawLine → List Step
@@ -172,7 +175,16 @@ pub record Said : Type 0 where
   pub steps : List Step
 
 unfoldable pub said : List RawLine → Said
-said lines = record { place = place_after lines; processes = processes_in lines; letters = letters_in lines; states = states_in lines; start = start_in lines; accepts = accepts_in lines; rows = rows_in lines; steps = steps_in lines }
+said lines = record {
+  place = place_after lines;
+  processes = processes_in lines;
+  letters = letters_in lines;
+  states = states_in lines;
+  start = start_in lines;
+  accepts = accepts_in lines;
+  rows = table_rows_in lines;
+  steps = steps_in lines;
+}
 
 -- The tests of a line, after lines that say this.
 
@@ -202,16 +214,21 @@ line_fault s line =
 
 -- The refusal.
 
+-- of the line after so many
+abbrev pub next_fault : ℕ → Kind → TextFault
+next_fault n kind = record { line = n + 1; kind = kind }
+
 -- at the end of the text, after so many lines
 abbrev pub end_fault : Place → ℕ → Option TextFault
 end_fault AfterEnd n = None
-end_fault _ n = Some (record { line = n + 1; kind = NoEnd })
+end_fault _ n = Some (next_fault n NoEnd)
 
 -- the first wrong line of those that come after others
 abbrev pub faults_from : List RawLine → List RawLine → Option TextFault
 faults_from before [] = end_fault (said before).place (length before)
 faults_from before (line ∷ lines) =
-    option_or (option_map (λ (kind : Kind). record { line = length before + 1; kind = kind }) (line_fault (said before) line)) (faults_from (before ++ line ∷ []) lines)
+    let here = option_map (next_fault (length before)) (line_fault (said before) line) in
+    option_or here (faults_from (before ++ line ∷ []) lines)
 
 -- the refusal of a text: its first wrong line with the kind of its first test that fails, or the missing
 -- end, and none where the text is a job
@@ -220,17 +237,14 @@ fault_of bytes = faults_from [] (lines_of bytes)
 
 -- The job.
 
--- which of so many states are among these
-abbrev pub accepting_of : ℕ → List ℕ → List Bool
-accepting_of states accepts = map (has accepts) (range_with_len 0 states)
-
--- the targets of these rows, for so many states and letters
-abbrev pub targets_of_rows : ℕ → ℕ → List declared_row.Row → List (Option ℕ)
-targets_of_rows states letters rows = map (λ i. target_in rows (i / letters) (i % letters)) (range_with_len 0 (states * letters))
+-- of each of so many states, whether it is among these
+abbrev pub acceptance_of : ℕ → List ℕ → List Bool
+acceptance_of states accepts = map (has accepts) (range_with_len 0 states)
 
 -- the joined letters of the script lines of a process
-abbrev pub joined : List Step → ℕ → List ℕ
-joined steps process = map (λ (step : Step). step.letter) (filter (λ (step : Step). step.process == process) steps)
+abbrev pub script_of_steps : List Step → ℕ → List ℕ
+script_of_steps steps process =
+    map (λ (step : Step). step.letter) (filter (λ (step : Step). step.process == process) steps)
 
 -- the language that lines say
 abbrev pub lang_said : Said → PartialDfa
@@ -238,12 +252,12 @@ lang_said s = record {
   alphabet = record { processes = s.processes; letters = s.letters };
   states = s.states;
   start = s.start;
-  accepting = accepting_of s.states s.accepts;
-  targets = targets_of_rows s.states (length s.letters) s.rows;
+  accepting = acceptance_of s.states s.accepts;
+  targets = cells_of s.states (length s.letters) s.rows;
 }
 
 abbrev pub scripts_said : Said → List (List ℕ)
-scripts_said s = map (joined s.steps) (range_with_len 0 s.processes)
+scripts_said s = map (script_of_steps s.steps) (range_with_len 0 s.processes)
 
 abbrev pub job_said : Said → JobData
 job_said s = record { lang = lang_said s; scripts = scripts_said s }

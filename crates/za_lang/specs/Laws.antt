@@ -1,9 +1,8 @@
--- What languages and tables are to each other.
-use Rattle.std.specs.Prelude.{◌≡◌, ◌≤◌}
-use Rattle.za_dfa.specs.declared.rows.TheConstants.{MOST_STATES}
-use Rattle.za_dfa.specs.Tables.{CompleteDfa, IsComplete}
-use Rattle.za_lang.specs.Langs.{completion, whole_of}
+-- What the text of a document is.
+use Rattle.std.specs.Prelude.{◌≡◌, ℕ, List, None}
+use Rattle.za_lang.specs.Jobs.{IsJob}
+use Rattle.za_lang.specs.Documents.{fault_of, job_of}
 
--- the language of a complete table of at most 32 states completes to that table
-abbrev pub WholeLanguagesComplete : Type 0
-WholeLanguagesComplete = (d : CompleteDfa) → IsComplete d → d.states ≤ MOST_STATES → completion (whole_of d) ≡ d
+-- a text that isn't refused is a job
+abbrev pub DocumentsAreJobs : Type 0
+DocumentsAreJobs = (bytes : List ℕ) → fault_of bytes ≡ None → IsJob (job_of bytes)

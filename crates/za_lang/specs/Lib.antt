@@ -1,12 +1,9 @@
-pub mod Langs
+pub mod Limits
 pub mod Order
 pub mod Tests
 pub mod Documents
 pub mod Jobs
 pub mod Answers
 pub mod Words
-pub mod Inside
-pub mod Reading
-pub mod Letters
-pub mod Shown
 pub mod Laws
+pub mod Private

@@ -1,8 +1,10 @@
 ghost use Rattle.std.specs.Prelude.{◌≡◌};
+ghost use Rattle.za_lang.specs.Answers.{fault_at};
 
 use std::alloc::{AllocError, AllocFailed};
-use za_alpha::{AlphaFault, OutOfMemory};
-use za_dfa::DfaFault;
+use za_alpha::{NameFault, OutOfMemory};
+use za_dfa::TwoTargets;
+use za_script::ScriptFault;
 use za_text::{Kind, TextFault};
 
 /// Why bytes are no job.
@@ -15,13 +17,23 @@ pub enum JobFault {
     OutOfMemory,
 }
 
-/// Why a line isn't taken.
+/// Why a line isn't taken. A call that reads lines answers it by `fault_at`.
 #[derive(Clone, Copy, Debug, PartialEq, Eq)]
-pub(crate) enum Refusal {
+pub enum Refusal {
     /// The first of its tests that fails.
     Wrong(Kind),
     /// Memory was refused.
     OutOfMemory,
+}
+
+/// A refusal, at the line of this number.
+pub fn fault_at(line: u32, refusal: Refusal) -> JobFault
+    ensures { result ≡ fault_at line refusal }
+{
+    match refusal {
+        Refusal::Wrong(kind) => JobFault::Text(TextFault { line, kind }),
+        Refusal::OutOfMemory => JobFault::OutOfMemory,
+    }
 }
 
 impl From<OutOfMemory> for Refusal {
@@ -68,16 +80,44 @@ impl From<Kind> for Refusal {
     }
 }
 
-/// The one fault of an alphabet whose rows were tested before.
-pub(crate) fn only_memory_of_alphabet(_fault: AlphaFault) -> OutOfMemory
-    requires { _fault ≡ AlphaFault.OutOfMemory }
-{
-    OutOfMemory
+impl From<NameFault> for Refusal {
+    ghost use Rattle.std.specs.Prelude.{◌≡◌};
+    ghost use Rattle.za_lang.specs.declared.fault.Refusal.TheVariants.{Wrong};
+    ghost use Rattle.za_lang.specs.Tests.{kind_of_name};
+
+    ghost from_gives = { λ fault e. e ≡ Wrong (kind_of_name fault) };
+
+    fn from(fault: NameFault) -> Refusal {
+        match fault {
+            NameFault::Bad => Refusal::Wrong(Kind::BadName),
+            NameFault::Repeated => Refusal::Wrong(Kind::RepeatedName),
+        }
+    }
 }
 
-/// The one fault of a table whose rows are right.
-pub(crate) fn only_memory_of_table(_fault: DfaFault) -> OutOfMemory
-    requires { _fault ≡ DfaFault.OutOfMemory }
-{
-    OutOfMemory
+impl From<TwoTargets> for Refusal {
+    ghost use Rattle.std.specs.Prelude.{◌≡◌};
+    ghost use Rattle.za_text.specs.declared.kind.Kind.TheVariants as kind;
+    ghost use Rattle.za_lang.specs.declared.fault.Refusal.TheVariants.{Wrong};
+
+    ghost from_gives = { λ _ e. e ≡ Wrong kind.TwoTargets };
+
+    fn from(_error: TwoTargets) -> Refusal {
+        Refusal::Wrong(Kind::TwoTargets)
+    }
+}
+
+impl From<ScriptFault> for Refusal {
+    ghost use Rattle.std.specs.Prelude.{◌≡◌};
+    ghost use Rattle.za_lang.specs.Answers.{refusal_of_step};
+
+    ghost from_gives = { λ fault e. e ≡ refusal_of_step fault };
+
+    fn from(fault: ScriptFault) -> Refusal {
+        match fault {
+            ScriptFault::Foreign { .. } => Refusal::Wrong(Kind::NotOfProcess),
+            ScriptFault::Full => Refusal::Wrong(Kind::ScriptsFull),
+            ScriptFault::OutOfMemory => Refusal::OutOfMemory,
+        }
+    }
 }

@@ -1,21 +1,22 @@
 //! What the lines from the start line on say is put into the job at once: its parts are the alphabet,
 //! the table and the scripts themselves.
 
-ghost use Rattle.std.specs.Prelude.{◌≡◌, ◌<◌, ◌≤◌, ◌∷◌, ◌++◌, [], List, None, Some, true, length, IfOk, MatchResult, OnOk, if◌then◌else◌};
+ghost use Rattle.std.specs.Prelude.{◌≡◌, ◌<◌, ◌∷◌, ◌++◌, [], List, None, Some, true, length, IfOk, MatchResult, OnOk, if◌then◌else◌};
 ghost use Rattle.std.specs.List.{filter_map};
 ghost use Rattle.std.specs.Option.{option_to_list};
-ghost use Rattle.za_text.specs.Numbers.{number_of};
+ghost use Rattle.za_text.specs.Numbers.{numeral_value};
 ghost use Rattle.za_text.specs.declared.kind.Kind.TheVariants.{TwoTargets};
 ghost use Rattle.za_alpha.specs.Alphabet.{place_of};
 ghost use Rattle.za_dfa.specs.declared.rows.Row as declared_row;
-ghost use Rattle.za_dfa.specs.Cells.{is_other, AreEntered};
+ghost use Rattle.za_dfa.specs.Partials.{IsPartial};
 ghost use Rattle.za_dfa.specs.Rows.{has_other};
+ghost use Rattle.za_dfa.specs.Private.Entered.{AreEntered};
 ghost use Rattle.za_script.specs.ScriptLists.{total_of, AreScripts};
-ghost use Rattle.za_lang.specs.Answers.{data_of, IsWrong};
+ghost use Rattle.za_lang.specs.Answers.{data_of};
 ghost use Rattle.za_lang.specs.Documents.{rows_said};
 ghost use Rattle.za_lang.specs.Jobs.{IsJob};
-ghost use Rattle.za_lang.specs.Langs.{target_of, IsPartial};
-ghost use Rattle.za_lang.specs.Reading.{is_late_head, marked, AreAdded, IsTaken};
+ghost use Rattle.za_lang.specs.Limits.{FitsDocuments};
+ghost use Rattle.za_lang.specs.Private.Gathering.{is_late_head, marked, AreAdded, IsTaken, IsWrong};
 ghost use Rattle.za_lang.specs.Tests.{accept_line_fault, row_line_fault, step_fault, steps_fault};
 
 use crate::fault::Refusal;
@@ -25,17 +26,18 @@ use crate::line_tests::{end_line_fault, process_of, start_said, state_of};
 use crate::order::Head;
 use crate::words::Words;
 use za_alpha::{Alphabet, Letter};
-use za_dfa::Row;
-use za_script::{ScriptFault, Scripts};
+use za_script::Scripts;
 use za_text::Kind;
 
 /// Lets the states that the words name accept.
 fn accept_states(lang: &mut Lang, mut words: Words) -> Result<(), Kind>
-    ensures { MatchResult result
+    ensures taken { let accepting = marked lang.old.accepting (filter_map numeral_value words.entry) in
+        MatchResult result
         (λ _. (accept_line_fault lang.old.states words.entry ≡ None)
-        × (lang.new ≡ record lang.old { accepting = marked lang.old.accepting (filter_map number_of words.entry) })
-        × IsPartial lang.new)
+        × (lang.new ≡ record lang.old { accepting = accepting }))
         (λ kind. accept_line_fault lang.old.states words.entry ≡ Some kind) }
+    ensures whole { OnOk result (IsPartial lang.new) }
+    ensures limits { OnOk result (FitsDocuments lang.new) }
 {
     let states = lang.states();
     while let Some(word) = words.next() {
@@ -45,14 +47,29 @@ fn accept_states(lang: &mut Lang, mut words: Words) -> Result<(), Kind>
     Ok(())
 }
 
+/// The state, the letter and the state of a row.
+#[derive(Clone, Copy)]
+struct RowSaid {
+    from: u8,
+    letter: Letter,
+    to: u8,
+}
+
 /// The row that the words say: a state, a letter and a state.
 #[tactic(auto, unfolding(crate::specs::Tests::new_row_fault))]
-fn row_said(lang: &Lang, mut words: Words) -> Result<Row, Kind>
+fn row_said(lang: &Lang, mut words: Words) -> Result<RowSaid, Kind>
     ensures said { MatchResult result
-        (λ row. (rows : List declared_row.Row) → row_line_fault lang.now.states lang.now.alphabet.letters rows words.entry ≡ (if has_other rows row.from row.letter.0 row.to then Some TwoTargets else None))
-        (λ kind. (rows : List declared_row.Row) → row_line_fault lang.now.states lang.now.alphabet.letters rows words.entry ≡ Some kind) }
-    ensures row { IfOk result (λ row. (rows_said lang.now.alphabet.letters Head.Row words.entry ≡ row ∷ [])
-        × (row.from < lang.now.states) × (row.letter.0 < length lang.now.alphabet.letters) × (row.to < lang.now.states)) }
+        (λ row. (rows : List declared_row.Row) →
+        row_line_fault lang.now.states lang.now.alphabet.letters rows words.entry
+        ≡ (if has_other rows row.from row.letter.0 row.to then Some TwoTargets else None))
+        (λ kind. (rows : List declared_row.Row) →
+        row_line_fault lang.now.states lang.now.alphabet.letters rows words.entry ≡ Some kind) }
+    ensures row { IfOk result (λ row.
+        (rows_said lang.now.alphabet.letters Head.Row words.entry
+        ≡ record { from = row.from; letter = row.letter; to = row.to } ∷ [])
+        × (row.from < lang.now.states)
+        × (row.letter.0 < length lang.now.alphabet.letters)
+        × (row.to < lang.now.states)) }
 {
     let Some(from) = words.next() else {
         return Err(Kind::WordCount);
@@ -71,41 +88,21 @@ fn row_said(lang: &Lang, mut words: Words) -> Result<Row, Kind>
         return Err(Kind::NoSuchLetter);
     };
     let to = state_of(lang.states(), to)?;
-    Ok(Row {
-        from: u32::from(from),
-        letter,
-        to: u32::from(to),
-    })
-}
-
-/// Whether a row was entered with the row's state and letter and another target.
-fn is_contradicted(lang: &Lang, row: &Row) -> bool
-    requires state { row.now.from < lang.now.states }
-    requires letter { row.now.letter.0 < length lang.now.alphabet.letters }
-    ensures { result ≡ is_other (target_of lang.now row.now.from row.now.letter.0) row.now.to }
-{
-    let _states = lang.states();
-    match lang.target(row.from as u8, row.letter) {
-        Some(entered) => u32::from(entered) != row.to,
-        None => false,
-    }
+    Ok(RowSaid { from, letter, to })
 }
 
 /// Enters the row that the words say.
-fn take_row(lang: &mut Lang, words: Words) -> Result<(), Kind>
-    requires { IsPartial lang.old }
+fn take_row(lang: &mut Lang, words: Words) -> Result<(), Refusal>
     ensures whole { OnOk result (IsPartial lang.new) }
+    ensures limits { OnOk result (FitsDocuments lang.new) }
     ensures same { OnOk result (lang.new ≡ record lang.old { targets = lang.new.targets }) }
-    ensures rows { (rows : List declared_row.Row) → AreEntered lang.old.targets (length lang.old.alphabet.letters) rows → MatchResult result
-        (λ _. (row_line_fault lang.old.states lang.old.alphabet.letters rows words.entry ≡ None)
-        × AreEntered lang.new.targets (length lang.old.alphabet.letters) (rows ++ rows_said lang.old.alphabet.letters Head.Row words.entry))
-        (λ kind. row_line_fault lang.old.states lang.old.alphabet.letters rows words.entry ≡ Some kind) }
+    ensures rows { (rows : List declared_row.Row) → AreEntered lang.old rows →
+        let fault = row_line_fault lang.old.states lang.old.alphabet.letters rows words.entry in
+        let said = rows_said lang.old.alphabet.letters Head.Row words.entry in
+        MatchResult result (λ _. (fault ≡ None) × AreEntered lang.new (rows ++ said)) (IsWrong fault) }
 {
     let row = row_said(lang, words)?;
-    if is_contradicted(lang, &row) {
-        return Err(Kind::TwoTargets);
-    }
-    lang.enter(row);
+    lang.enter(row.from, row.letter, row.to)?;
     Ok(())
 }
 
@@ -119,21 +116,17 @@ fn add_step(
     requires process { p < length scripts.old }
     requires of_alphabet { p < alphabet.now.processes }
     requires limits { AreScripts scripts.old }
-    ensures { let fault = step_fault alphabet.now.letters p (total_of scripts.old) (place_of alphabet.now.letters name.now) in MatchResult result
-        (λ _. (fault ≡ None) × AreAdded alphabet.now scripts.old scripts.new p (option_to_list (place_of alphabet.now.letters name.now)))
+    ensures { let place = place_of alphabet.now.letters name.now in
+        let fault = step_fault alphabet.now.letters p (total_of scripts.old) place in
+        MatchResult result
+        (λ _. (fault ≡ None) × AreAdded alphabet.now scripts.old scripts.new p (option_to_list place))
         (IsWrong fault) }
 {
     let Some(a) = alphabet.find(name) else {
         return Err(Refusal::Wrong(Kind::NoSuchLetter));
     };
-    match scripts.add(alphabet, p, a) {
-        Ok(()) => Ok(()),
-        Err(fault) => match fault {
-            ScriptFault::Foreign { .. } => Err(Refusal::Wrong(Kind::NotOfProcess)),
-            ScriptFault::Full => Err(Refusal::Wrong(Kind::ScriptsFull)),
-            ScriptFault::OutOfMemory => Err(Refusal::OutOfMemory),
-        },
-    }
+    scripts.add(alphabet, p, a)?;
+    Ok(())
 }
 
 /// Appends the letters that the words name to a script.
@@ -146,8 +139,10 @@ fn add_steps(
     requires process { p < length scripts.old }
     requires of_alphabet { p < alphabet.now.processes }
     requires limits { AreScripts scripts.old }
-    ensures { let fault = steps_fault alphabet.now.letters p (total_of scripts.old) words.entry in MatchResult result
-        (λ _. (fault ≡ None) × AreAdded alphabet.now scripts.old scripts.new p (filter_map (place_of alphabet.now.letters) words.entry))
+    ensures { let letters = filter_map (place_of alphabet.now.letters) words.entry in
+        let fault = steps_fault alphabet.now.letters p (total_of scripts.old) words.entry in
+        MatchResult result
+        (λ _. (fault ≡ None) × AreAdded alphabet.now scripts.old scripts.new p letters)
         (IsWrong fault) }
 {
     while let Some(name) = words.next() {

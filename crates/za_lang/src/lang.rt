@@ -1,153 +1,65 @@
-ghost use Rattle.std.specs.Prelude.{◌≡◌, ◌<◌, ◌≤◌, ◌+◌, ◌*◌, ◌++◌, ℕ, All, map, length, slice_set, Some, true, IfOk, IfSome, OnOk};
-ghost use Rattle.std.specs.Option.{option_to_list};
-ghost use Rattle.za_dfa.specs.declared.rows.Row as declared_row;
-ghost use Rattle.za_dfa.specs.declared.rows.TheConstants.{MOST_STATES};
-ghost use Rattle.za_lang.specs.Langs.{blank, completion, is_accepting, row_of_cell, rows_of, target_of, whole_of, IsPartial};
+ghost use Rattle.std.specs.Prelude.{◌≡◌, ◌<◌, ◌≤◌, length, slice_set, true, false, IfOk, IfSome, MatchResult};
+ghost use Rattle.za_dfa.specs.Partials.{blank, completion, entered, is_accepting, is_other, target_of, whole_of, IsPartial};
+ghost use Rattle.za_lang.specs.Limits.{most_letters, most_processes, most_states, FitsDocuments};
 
-use crate::fault::only_memory_of_table;
 use std::alloc::Global;
 use std::marker::Model;
 use za_alpha::{Alphabet, Letter, OutOfMemory};
-use za_dfa::{Dfa, Row};
+use za_dfa::{Dfa, Partial, TwoTargets};
 
-/// A regular language over a distributed alphabet: 1 to 32 states, a start state, accepting states,
-/// and a partial table of targets.
+/// A regular language over a distributed alphabet, as a partial table within the limits of documents:
+/// 6 processes, 32 letters and 32 states.
 #[derive(Debug, Drop)]
 pub struct Lang {
-    alphabet: Alphabet,
-    states: usize,
-    start: u8,
-    accepting: Vec<bool>,
-    targets: Vec<Option<u8>>,
+    partial: Partial,
 }
 
 impl Model for Lang {
-    ghost use Rattle.za_lang.specs.Langs.{PartialDfa};
-    ghost use Rattle.za_lang.specs.Inside.{lang_of, IsPartialInside};
+    ghost use Rattle.za_dfa.specs.Partials.{PartialDfa};
+    ghost use Rattle.za_lang.specs.Private.Inside.{lang_of, IsLang};
 
     ghost Value = { PartialDfa };
 
     ghost view = { lang_of };
 
-    ghost invariant = { IsPartialInside };
-}
-
-/// Which states of a DFA accept.
-fn accepting_of(alloc: Global, dfa: &Dfa) -> Result<Vec<bool>, OutOfMemory>
-    ensures { IfOk result (λ accepting. accepting.items ≡ dfa.now.accepting) }
-{
-    let mut accepting = Vec::new(alloc);
-    for q in 0..dfa.states() {
-        accepting.push(dfa.accepting(q as u8))?;
-    }
-    Ok(accepting)
-}
-
-/// Where each letter leads from each state of a DFA, by state and then by letter.
-fn targets_of(alloc: Global, dfa: &Dfa) -> Result<Vec<Option<u8>>, OutOfMemory>
-    ensures { IfOk result (λ targets. targets.items ≡ map (λ (t : ℕ). Some t) dfa.now.targets) }
-{
-    let letters = dfa.alphabet().letters();
-    let mut targets = Vec::new(alloc);
-    for i in 0..dfa.states() * letters {
-        targets.push(Some(dfa.step((i / letters) as u8, Letter((i % letters) as u8))))?;
-    }
-    Ok(targets)
-}
-
-/// Appends a row, if there is one.
-fn push_row(rows: &mut Vec<Row>, row: Option<Row>) -> Result<(), OutOfMemory>
-    ensures { OnOk result (rows.new.items ≡ rows.old.items ++ option_to_list row) }
-{
-    if let Some(row) = row {
-        rows.push(row)?;
-    }
-    Ok(())
+    ghost invariant = { IsLang };
 }
 
 impl Lang {
-    /// The language of a DFA of at most 32 states: its alphabet, states, start state and accepting
-    /// states, and all its rows. `OutOfMemory` comes only where memory is refused.
+    /// The language of a DFA within the limits of documents: its alphabet, states, start state and
+    /// accepting states, and all its rows.
     pub fn of(alloc: Global, dfa: &Dfa) -> Result<Lang, OutOfMemory>
-        requires { dfa.now.states ≤ MOST_STATES }
+        requires processes { dfa.now.alphabet.processes ≤ most_processes }
+        requires letters { length dfa.now.alphabet.letters ≤ most_letters }
+        requires states { dfa.now.states ≤ most_states }
         ensures { IfOk result (λ lang. lang ≡ whole_of dfa.now) }
     {
-        let alphabet = dfa.alphabet().copy()?;
-        let accepting = accepting_of(alloc, dfa)?;
-        let targets = targets_of(alloc, dfa)?;
-        Ok(Lang {
-            alphabet,
-            states: dfa.states(),
-            start: dfa.start(),
-            accepting,
-            targets,
-        })
+        let partial = Partial::of(alloc, dfa)?;
+        Ok(Lang { partial })
     }
 
     /// The completed DFA: where a state and a letter lead nowhere, they lead to one added rejecting
-    /// state, which leads to itself. `OutOfMemory` comes only where memory is refused.
+    /// state, which leads to itself.
     pub fn dfa(&self) -> Result<Dfa, OutOfMemory>
         ensures { IfOk result (λ dfa. dfa ≡ completion self.now) }
     {
-        let alloc = *self.accepting.allocator();
-        let rows = self.rows(alloc)?;
-        let accepting = Vec::from_slice(alloc, self.accepting.as_slice())?;
-        let alphabet = self.alphabet.copy()?;
-        match Dfa::complete(
-            alloc,
-            alphabet,
-            self.states as u32,
-            u32::from(self.start),
-            accepting,
-            rows.as_slice(),
-        ) {
-            Ok(dfa) => Ok(dfa),
-            Err(fault) => Err(only_memory_of_table(fault)),
-        }
-    }
-
-    /// The row of cell `i`, which is that of state `i / m` and letter `i % m` for `m` letters.
-    fn row_of_cell(&self, i: usize) -> Option<Row>
-        requires { i < length self.now.targets }
-        ensures { result ≡ row_of_cell self.now i }
-    {
-        let letters = self.alphabet.letters();
-        match self.targets[i] {
-            Some(to) => Some(Row {
-                from: (i / letters) as u32,
-                letter: Letter((i % letters) as u8),
-                to: u32::from(to),
-            }),
-            None => None,
-        }
-    }
-
-    /// The rows, by state and then by letter.
-    #[tactic(auto, using(crate::proofs::Cells::rows_more))]
-    fn rows(&self, alloc: Global) -> Result<Vec<Row>, OutOfMemory>
-        ensures value { IfOk result (λ rows. rows.items ≡ rows_of self.now) }
-        ensures letters { IfOk result (λ rows. All (λ (row : declared_row.Row). row.letter.0 < length self.now.alphabet.letters) rows.items) }
-    {
-        let mut rows = Vec::new(alloc);
-        for i in 0..self.targets.len() {
-            push_row(&mut rows, self.row_of_cell(i))?;
-        }
-        Ok(rows)
+        self.partial.completed()
     }
 
     /// The alphabet.
     pub fn alphabet(&self) -> &Alphabet
         ensures { result.now ≡ self.now.alphabet }
     {
-        &self.alphabet
+        self.partial.alphabet()
     }
 
     /// How many states there are, 1 to 32.
     pub fn states(&self) -> usize
         ensures value { result ≡ self.now.states }
         ensures whole { IsPartial self.now }
+        ensures limits { FitsDocuments self.now }
     {
-        self.states
+        self.partial.states()
     }
 
     /// The start state.
@@ -155,7 +67,7 @@ impl Lang {
         ensures value { result ≡ self.now.start }
         ensures within { result < self.now.states }
     {
-        self.start
+        self.partial.start()
     }
 
     /// Whether state `q` accepts.
@@ -163,7 +75,7 @@ impl Lang {
         requires { q < self.now.states }
         ensures { result ≡ is_accepting self.now q }
     {
-        self.accepting[q as usize]
+        self.partial.accepting(q)
     }
 
     /// Where a letter leads from state `q`, if it leads anywhere.
@@ -173,7 +85,7 @@ impl Lang {
         ensures value { result ≡ target_of self.now q a.0 }
         ensures within { IfSome result (λ r. r < self.now.states) }
     {
-        self.targets[q as usize * self.alphabet.letters() + a.0 as usize]
+        self.partial.target(q, a)
     }
 
     /// The language without rows and accepting states, which starts at state 0.
@@ -182,20 +94,16 @@ impl Lang {
         alphabet: Alphabet,
         states: usize,
     ) -> Result<Lang, OutOfMemory>
+        requires processes { alphabet.processes ≤ most_processes }
+        requires letters { length alphabet.letters ≤ most_letters }
         requires some { 1 ≤ states }
-        requires few { states ≤ MOST_STATES }
+        requires few { states ≤ most_states }
         ensures value { IfOk result (λ lang. lang ≡ blank alphabet states) }
         ensures whole { IfOk result (λ lang. IsPartial lang) }
+        ensures limits { IfOk result (λ lang. FitsDocuments lang) }
     {
-        let accepting = vec![in alloc; false; states]?;
-        let targets = vec![in alloc; None; states * alphabet.letters()]?;
-        Ok(Lang {
-            alphabet,
-            states,
-            start: 0,
-            accepting,
-            targets,
-        })
+        let partial = Partial::blank(alloc, alphabet, states)?;
+        Ok(Lang { partial })
     }
 
     /// Lets the words start at a state.
@@ -203,8 +111,9 @@ impl Lang {
         requires { q < self.old.states }
         ensures value { self.new ≡ record self.old { start = q } }
         ensures whole { IsPartial self.new }
+        ensures limits { FitsDocuments self.new }
     {
-        self.start = q;
+        self.partial.start_at(q);
     }
 
     /// Lets a state accept.
@@ -212,19 +121,22 @@ impl Lang {
         requires { q < self.old.states }
         ensures value { self.new ≡ record self.old { accepting = slice_set self.old.accepting q true } }
         ensures whole { IsPartial self.new }
+        ensures limits { FitsDocuments self.new }
     {
-        self.accepting[q as usize] = true;
+        self.partial.accept(q);
     }
 
-    /// Writes the target of a row.
-    pub(crate) fn enter(&mut self, row: Row)
-        requires from { row.from < self.old.states }
-        requires letter { row.letter.0 < length self.old.alphabet.letters }
-        requires to { row.to < self.old.states }
-        ensures value { self.new ≡ record self.old { targets = slice_set self.old.targets (row.from * length self.old.alphabet.letters + row.letter.0) (Some row.to) } }
+    /// Lets a letter lead from a state to another, unless it leads elsewhere already.
+    pub(crate) fn enter(&mut self, q: u8, a: Letter, r: u8) -> Result<(), TwoTargets>
+        requires state { q < self.old.states }
+        requires letter { a.0 < length self.old.alphabet.letters }
+        requires target { r < self.old.states }
+        ensures answer { MatchResult result
+            (λ _. (is_other (target_of self.old q a.0) r ≡ false) × (self.new ≡ entered self.old q a.0 r))
+            (λ _. (is_other (target_of self.old q a.0) r ≡ true) × (self.new ≡ self.old)) }
         ensures whole { IsPartial self.new }
+        ensures limits { FitsDocuments self.new }
     {
-        let letters = self.alphabet.letters();
-        self.targets[row.from as usize * letters + row.letter.0 as usize] = Some(row.to as u8);
+        self.partial.enter(q, a, r)
     }
 }

@@ -1,9 +1,9 @@
 //! Laws over the definitions alone.
 
-ghost use Rattle.za_lang.specs.Laws.{WholeLanguagesComplete};
+ghost use Rattle.za_lang.specs.Laws.{DocumentsAreJobs};
 
-/// The language of a complete table of at most 32 states completes to that table.
-#[tactic(auto, using(crate::proofs::Cells::whole_completes))]
-pub fn whole_languages_complete()
-    ensures { WholeLanguagesComplete }
+/// A text that isn't refused is a job.
+#[tactic(auto, using(crate::proofs::Sound::documents_are_jobs))]
+pub fn documents_are_jobs()
+    ensures { DocumentsAreJobs }
 {}

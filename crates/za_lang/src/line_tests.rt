@@ -1,13 +1,11 @@
 ghost use Rattle.std.specs.Prelude.{◌≡◌, ◌<◌, ◌≤◌, None, Some, MatchResult};
-ghost use Rattle.za_alpha.specs.declared.rows.TheConstants.{MOST_PROCESSES};
-ghost use Rattle.za_dfa.specs.declared.rows.TheConstants.{MOST_STATES};
-ghost use Rattle.za_text.specs.Numbers.{number_of};
+ghost use Rattle.za_text.specs.Numbers.{numeral_value};
 ghost use Rattle.za_lang.specs.Documents.{first_number};
+ghost use Rattle.za_lang.specs.Limits.{most_processes, most_states};
 ghost use Rattle.za_lang.specs.Tests.{end_line_fault, header_line_fault, process_fault, processes_fault, processes_line_fault, start_line_fault, state_fault, states_fault, states_line_fault};
 
+use crate::limits::{MOST_PROCESSES, MOST_STATES};
 use crate::words::Words;
-use za_alpha::MOST_PROCESSES;
-use za_dfa::MOST_STATES;
 use za_text::{Kind, number};
 
 /// The own tests of a header line, by its words after the first.
@@ -41,7 +39,7 @@ pub(crate) fn end_line_fault(mut words: Words) -> Option<Kind>
 
 fn count_of_processes(count: Option<u32>) -> Result<u32, Kind>
     ensures { MatchResult result
-        (λ n. (processes_fault count ≡ None) × (count ≡ Some n) × (1 ≤ n) × (n ≤ MOST_PROCESSES))
+        (λ n. (processes_fault count ≡ None) × (count ≡ Some n) × (1 ≤ n) × (n ≤ most_processes))
         (λ kind. processes_fault count ≡ Some kind) }
 {
     match count {
@@ -59,7 +57,8 @@ fn count_of_processes(count: Option<u32>) -> Result<u32, Kind>
 /// The number of processes that a line says, by its words after the first.
 pub(crate) fn processes_said(mut words: Words) -> Result<u32, Kind>
     ensures { MatchResult result
-        (λ n. (processes_line_fault words.entry ≡ None) × (first_number words.entry ≡ Some n) × (1 ≤ n) × (n ≤ MOST_PROCESSES))
+        (λ n. (processes_line_fault words.entry ≡ None)
+        × (first_number words.entry ≡ Some n) × (1 ≤ n) × (n ≤ most_processes))
         (λ kind. processes_line_fault words.entry ≡ Some kind) }
 {
     match words.next() {
@@ -75,7 +74,7 @@ pub(crate) fn processes_said(mut words: Words) -> Result<u32, Kind>
 
 fn count_of_states(count: Option<u32>) -> Result<u32, Kind>
     ensures { MatchResult result
-        (λ n. (states_fault count ≡ None) × (count ≡ Some n) × (1 ≤ n) × (n ≤ MOST_STATES))
+        (λ n. (states_fault count ≡ None) × (count ≡ Some n) × (1 ≤ n) × (n ≤ most_states))
         (λ kind. states_fault count ≡ Some kind) }
 {
     match count {
@@ -93,7 +92,8 @@ fn count_of_states(count: Option<u32>) -> Result<u32, Kind>
 /// The number of states that a line says, by its words after the first.
 pub(crate) fn states_said(mut words: Words) -> Result<u32, Kind>
     ensures { MatchResult result
-        (λ n. (states_line_fault words.entry ≡ None) × (first_number words.entry ≡ Some n) × (1 ≤ n) × (n ≤ MOST_STATES))
+        (λ n. (states_line_fault words.entry ≡ None)
+        × (first_number words.entry ≡ Some n) × (1 ≤ n) × (n ≤ most_states))
         (λ kind. states_line_fault words.entry ≡ Some kind) }
 {
     match words.next() {
@@ -110,8 +110,9 @@ pub(crate) fn states_said(mut words: Words) -> Result<u32, Kind>
 /// The process of this number.
 pub(crate) fn process_of(processes: usize, word: &[u8]) -> Result<usize, Kind>
     ensures { MatchResult result
-        (λ p. (process_fault processes (number_of word.now) ≡ None) × (number_of word.now ≡ Some p) × (p < processes))
-        (λ kind. process_fault processes (number_of word.now) ≡ Some kind) }
+        (λ p. (process_fault processes (numeral_value word.now) ≡ None)
+        × (numeral_value word.now ≡ Some p) × (p < processes))
+        (λ kind. process_fault processes (numeral_value word.now) ≡ Some kind) }
 {
     match number(word) {
         None => Err(Kind::BadNumber),
@@ -127,10 +128,10 @@ pub(crate) fn process_of(processes: usize, word: &[u8]) -> Result<usize, Kind>
 
 /// The state of this number.
 pub(crate) fn state_of(states: usize, word: &[u8]) -> Result<u8, Kind>
-    requires { states ≤ MOST_STATES }
+    requires { states ≤ most_states }
     ensures { MatchResult result
-        (λ q. (state_fault states (number_of word.now) ≡ None) × (number_of word.now ≡ Some q) × (q < states))
-        (λ kind. state_fault states (number_of word.now) ≡ Some kind) }
+        (λ q. (state_fault states (numeral_value word.now) ≡ None) × (numeral_value word.now ≡ Some q) × (q < states))
+        (λ kind. state_fault states (numeral_value word.now) ≡ Some kind) }
 {
     match number(word) {
         None => Err(Kind::BadNumber),
@@ -146,7 +147,7 @@ pub(crate) fn state_of(states: usize, word: &[u8]) -> Result<u8, Kind>
 
 /// The start state that a line says, by its words after the first.
 pub(crate) fn start_said(states: usize, mut words: Words) -> Result<u8, Kind>
-    requires { states ≤ MOST_STATES }
+    requires { states ≤ most_states }
     ensures { MatchResult result
         (λ q. (start_line_fault states words.entry ≡ None) × (first_number words.entry ≡ Some q) × (q < states))
         (λ kind. start_line_fault states words.entry ≡ Some kind) }

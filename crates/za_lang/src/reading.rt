@@ -2,25 +2,25 @@ ghost use Rattle.std.specs.Prelude.{◌≡◌, ◌<◌, ◌+◌, ℕ, None, Some
 ghost use Rattle.std.specs.Option.{option_or};
 ghost use Rattle.za_text.specs.Lines.{raw};
 ghost use Rattle.za_text.specs.Words.{words_of};
-ghost use Rattle.za_lang.specs.Answers.{data_of, fault_at, IsRefused, IsWrong};
+ghost use Rattle.za_lang.specs.Answers.{data_of, IsRefused};
 ghost use Rattle.za_text.specs.declared.kind.Kind.TheVariants.{NoEnd};
 ghost use Rattle.za_lang.specs.declared.order.Place.TheVariants.{AfterEnd};
 ghost use Rattle.za_lang.specs.declared.reading.Reading.TheVariants.{Body};
 ghost use Rattle.za_lang.specs.Documents.{Said, end_fault, fault_of, job_of, line_fault, own_fault};
 ghost use Rattle.za_lang.specs.Jobs.{IsJob};
-ghost use Rattle.za_lang.specs.Letters.{AreLetters};
 ghost use Rattle.za_lang.specs.Order.{order_fault};
-ghost use Rattle.za_lang.specs.Reading.{more, more_said};
-ghost use Rattle.za_lang.specs.Shown.{letters_told, reading_place, IsReading, Shows};
+ghost use Rattle.za_lang.specs.Private.Gathering.{more, more_said, IsWrong};
+ghost use Rattle.za_lang.specs.Private.Reading.{reading_place, IsReading, Keeps};
 
-use crate::fault::{JobFault, Refusal};
+use crate::fault::{JobFault, Refusal, fault_at};
 use crate::gather::take_line;
 use crate::job::Job;
-use crate::letters::Letters;
+use crate::letters::{after_letters, place_of};
 use crate::line_tests::{header_line_fault, processes_said};
 use crate::order::{Head, Place, head_of, next_place, order_fault};
 use crate::words::Words;
 use std::alloc::Global;
+use za_alpha::Letters;
 use za_text::{Kind, Line, Lines, TextFault, are_allowed};
 
 /// What the lines so far have said: nothing, the header, processes and letters, or, from the states
@@ -41,7 +41,7 @@ impl Reading {
         match self {
             Reading::Header => Place::AtHeader,
             Reading::Processes => Place::AtProcesses,
-            Reading::Letters(letters) => letters.place(),
+            Reading::Letters(letters) => place_of(letters),
             Reading::Body { place, .. } => *place,
         }
     }
@@ -50,8 +50,9 @@ impl Reading {
     fn after_words(self, alloc: Global, head: Head, words: Words) -> Result<Reading, Refusal>
         requires { IsReading self }
         ensures whole { IfOk result IsReading }
-        ensures taken { (s : Said) → Shows self s → MatchResult result
-            (λ reading. (option_or (order_fault s.place head) (own_fault s head words.entry) ≡ None) × Shows reading (more_said s head words.entry))
+        ensures taken { (s : Said) → Keeps self s → MatchResult result
+            (λ reading. (option_or (order_fault s.place head) (own_fault s head words.entry) ≡ None)
+            × Keeps reading (more_said s head words.entry))
             (IsWrong (option_or (order_fault s.place head) (own_fault s head words.entry))) }
     {
         if let Some(kind) = order_fault(self.place(), head) {
@@ -64,12 +65,9 @@ impl Reading {
             },
             Reading::Processes => {
                 let processes = processes_said(words)? as usize;
-                Ok(Reading::Letters(Letters {
-                    processes,
-                    rows: Vec::new(alloc),
-                }))
+                Ok(Reading::Letters(Letters::new(alloc, processes)))
             }
-            Reading::Letters(letters) => letters.after(alloc, head, words),
+            Reading::Letters(letters) => after_letters(letters, alloc, head, words),
             Reading::Body { place, mut job } => {
                 take_line(&mut job, head, words)?;
                 Ok(Reading::Body {
@@ -85,8 +83,8 @@ impl Reading {
     fn after(self, alloc: Global, line: &Line) -> Result<Reading, Refusal>
         requires { IsReading self }
         ensures whole { IfOk result IsReading }
-        ensures taken { (s : Said) → Shows self s → MatchResult result
-            (λ reading. (line_fault s (raw line.now) ≡ None) × Shows reading (more s (words_of line.now.text.now)))
+        ensures taken { (s : Said) → Keeps self s → MatchResult result
+            (λ reading. (line_fault s (raw line.now) ≡ None) × Keeps reading (more s (words_of line.now.text.now)))
             (IsWrong (line_fault s (raw line.now))) }
     {
         if !line.whole {
@@ -121,7 +119,7 @@ impl Reading {
 /// Reads a document of fewer than 4,294,967,295 bytes by its grammar, in one pass over its lines. It
 /// is refused at the first line that is wrong, with the first of that line's tests that fails, or,
 /// where each line is right and the last `end` is missing, at one more than the number of lines.
-/// `OutOfMemory` comes only where memory is refused. The bytes are kept by nothing that is answered.
+/// Want of memory is the one free answer. The bytes are kept by nothing that is answered.
 pub fn read_job(alloc: Global, bytes: &[u8]) -> Result<Job, JobFault>
     requires { length bytes.now < 4294967295 }
     ensures answer { MatchResult result
@@ -143,15 +141,5 @@ pub fn read_job(alloc: Global, bytes: &[u8]) -> Result<Job, JobFault>
             line: lines.passed() + 1,
             kind: Kind::NoEnd,
         })),
-    }
-}
-
-/// A refusal at a line.
-fn fault_at(line: u32, refusal: Refusal) -> JobFault
-    ensures { result ≡ fault_at line refusal }
-{
-    match refusal {
-        Refusal::Wrong(kind) => JobFault::Text(TextFault { line, kind }),
-        Refusal::OutOfMemory => JobFault::OutOfMemory,
     }
 }

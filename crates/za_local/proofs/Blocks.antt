@@ -20,7 +20,8 @@ blocks-decide n m xs ys lx ly h =
     let q : ℕ = i / m in
     let r : ℕ = i % m in
     let at : i ≡ q * m + r = sym (div-add-mod i m) ∙ ap (λ v. v + r) (mul_comm m q) in
-    ap (λ k. get_or xs k 0) at ∙ sym (block-place m xs q r cell.1) ∙ ap (λ b. get_or b r 0) (h q cell.0) ∙ block-place m ys q r cell.1 ∙ ap (λ k. get_or ys k 0) (sym at))
+    ap (λ k. get_or xs k 0) at ∙ sym (block-place m xs q r cell.1) ∙ ap (λ b. get_or b r 0) (h q cell.0) ∙ block-place m ys q r cell.1
+    ∙ ap (λ k. get_or ys k 0) (sym at))
 
 -- the block of a list of blocks
 pub block-of-blocks : (f : ℕ → List ℕ) (m : ℕ) → ((x : ℕ) → length (f x) ≡ m) → (n q : ℕ) → q < n → block_at m (flat_map f (range_with_len 0 n)) q ≡ f q

@@ -9,3 +9,6 @@ pub mod Sets
 pub mod Inputs
 pub mod FromBench
 pub mod ViewStates
+pub mod HandOut
+pub mod Gathered
+pub mod Same

@@ -1,12 +1,11 @@
 -- What an event does to the local states, and that they depend on the trace alone.
-use Rattle.std.proofs.Common.{◌≡◌, [], ◌∷◌, ◌++◌, length, sym, ap, ◌∙◌}
-use Rattle.za_alpha.specs.Alphabet.{loc_of}
+use Rattle.std.proofs.Common.{◌≡◌, [], ◌∷◌, ◌++◌, sym, ap, ◌∙◌}
 use Rattle.za_order.proofs.Equivalent.{ids_agree}
 use Rattle.za_gossip.specs.Rows.{Rows, rows_of}
 use Rattle.za_gossip.proofs.Updates.{rows-after, rows-kept}
 use Rattle.za_residue.specs.Functions.{Functions}
 use Rattle.za_residue.proofs.AfterWords.{residues-kept, residues-joined, residues-of-trace}
-use Rattle.za_local.specs.Locals.{LocalState, local_after}
+use Rattle.za_local.specs.Locals.{LocalState, local_state}
 use Rattle.za_local.specs.Laws.{OthersKeepLocals, ParticipantsAgreeOnLocals, SameTraceSameLocals}
 
 -- local states are the same by their parts
@@ -16,18 +15,19 @@ same-locals a b g r =
     ap (λ v. made v a.residues) g ∙ ap (made b.gossip) r
 
 pub others_keep_locals : OthersKeepLocals
-others_keep_locals d w a p whole word small h =
-    same-locals (local_after d (w ++ a ∷ []) p) (local_after d w p)
-    (sym (rows-kept (loc_of d.alphabet) (length d.alphabet.letters) d.alphabet.processes w a whole.located word small p h))
-    (residues-kept d whole w a word small p h)
+others_keep_locals loc n d w a p alphabet word small h =
+    same-locals (local_state loc n d (w ++ a ∷ []) p) (local_state loc n d w p)
+    (sym (rows-kept loc d.letters n w a alphabet word small p h))
+    (residues-kept loc n d alphabet w a word small p h)
 
 pub participants_agree_on_locals : ParticipantsAgreeOnLocals
-participants_agree_on_locals d w a p q whole word small hp hq =
-    let rows = rows-after (loc_of d.alphabet) (length d.alphabet.letters) d.alphabet.processes w a whole.located word small in
-    same-locals (local_after d (w ++ a ∷ []) p) (local_after d (w ++ a ∷ []) q) (sym (rows p hp) ∙ rows q hq) (residues-joined d whole w a word small p q hp hq)
+participants_agree_on_locals loc n d w a p q alphabet word small hp hq =
+    let rows = rows-after loc d.letters n w a alphabet word small in
+    same-locals (local_state loc n d (w ++ a ∷ []) p) (local_state loc n d (w ++ a ∷ []) q) (sym (rows p hp) ∙ rows q hq)
+    (residues-joined loc n d alphabet w a word small p q hp hq)
 
 pub same_trace_same_locals : SameTraceSameLocals
-same_trace_same_locals d u v p whole diamonds wu wv e =
-    same-locals (local_after d u p) (local_after d v p)
-    (ap (rows_of d.alphabet.processes) (ids_agree (loc_of d.alphabet) (length d.alphabet.letters) d.alphabet.processes u v p whole.distributed.located wu wv e))
-    (residues-of-trace d whole diamonds u v p wu wv e)
+same_trace_same_locals loc n d u v p alphabet total diamonds wu wv e =
+    same-locals (local_state loc n d u p) (local_state loc n d v p)
+    (ap (rows_of n) (ids_agree loc d.letters n u v p alphabet wu wv e))
+    (residues-of-trace loc n d alphabet total diamonds u v p wu wv e)

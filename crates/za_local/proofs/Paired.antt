@@ -1,5 +1,5 @@
 -- Rows and residues side by side.
-use Rattle.std.proofs.Common.{◌≡◌, ℕ, List, [], ◌∷◌, ◌++◌, length, refl, ap, ◌∙◌, arith}
+use Rattle.std.proofs.Common.{◌≡◌, ℕ, zero, suc, ◌<◌, Some, get_or, slice_get, List, [], ◌∷◌, ◌++◌, length, refl, ap, ◌∙◌, arith}
 use Rattle.za_gossip.specs.Rows.{Rows}
 use Rattle.za_residue.specs.Functions.{Functions}
 use Rattle.za_local.specs.Locals.{LocalState}
@@ -28,6 +28,14 @@ paired-more [] [] g r e = refl
 paired-more [] (q ∷ residues) g r e = absurd (omega arith)
 paired-more (h ∷ gossips) [] g r e = absurd (omega arith)
 paired-more (h ∷ gossips) (q ∷ residues) g r e = ap (λ locals. record { gossip = h; residues = q } ∷ locals) (paired-more gossips residues g r (omega arith))
+
+-- one of them
+pub paired-get : (gossips : List Rows) (residues : List Functions) (i : ℕ) (g : Rows) (r : Functions) → length gossips ≡ length residues → i < length gossips →
+    slice_get (paired gossips residues) i ≡ Some (record { gossip = get_or gossips i g; residues = get_or residues i r })
+paired-get [] residues i g r e l = absurd (omega arith)
+paired-get (h ∷ gossips) [] i g r e l = absurd (omega arith)
+paired-get (h ∷ gossips) (q ∷ residues) zero g r e l = refl
+paired-get (h ∷ gossips) (q ∷ residues) (suc i) g r e l = paired-get gossips residues i g r (omega arith) (omega arith)
 
 -- benches are the same by their parts
 pub same-benches : (a b : LocalStates) → a.processes ≡ b.processes → a.states ≡ b.states → a.locals ≡ b.locals → a ≡ b

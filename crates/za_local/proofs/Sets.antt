@@ -25,6 +25,7 @@ pub rows-more : (want : ℕ → ℕ → ℕ → Bool) (n i : ℕ) (rows : List (
 rows-more want n i rows more l before here k r s lk lr =
     let after = λ (k : ℕ). has (members (get_or (get_or (slice_set rows i more) k []) r no_process)) s in
     elim (cases_eq k i) [
-      | inl e ↦ ap after e ∙ ap (λ row. has (members (get_or row r no_process)) s) (get_or-set_same rows i more [] l) ∙ here r s lr ∙ ap (λ k. want k r s) (sym e)
+      | inl e ↦ ap after e ∙ ap (λ row. has (members (get_or row r no_process)) s) (get_or-set_same rows i more [] l) ∙ here r s lr
+          ∙ ap (λ k. want k r s) (sym e)
       | inr ne ↦ ap (λ row. has (members (get_or row r no_process)) s) (get_or-set_other rows i k more [] ne) ∙ before k r s (omega arith) lr
     ]

@@ -1,5 +1,7 @@
 -- What rows of numbers tell of shared entries.
-use Rattle.std.proofs.Common.{◌≡◌, ℕ, zero, suc, ◌+◌, ◌<◌, ◌≤◌, Bool, true, false, not, ◌&&◌, ◌||◌, ◌==◌, inl, inr, List, [], ◌∷◌, ◌++◌, length, get_or, slice_index, take, map, flat_map, Option, Some, None, refl, sym, ap, subst, ◌∙◌, arith, eqb-true, eq-eqb, ne_eqb, take-suc, add-one}
+use Rattle.std.proofs.Common.{◌≡◌, ℕ, zero, suc, ◌+◌, ◌<◌, ◌≤◌, Bool, true, false, not, ◌&&◌, ◌||◌, ◌==◌, inl, inr, List, [], ◌∷◌, ◌++◌, length, get_or}
+use Rattle.std.proofs.Common.{slice_index, take, map, flat_map, Option, Some, None, refl, sym, ap, subst, ◌∙◌, arith, eqb-true, eq-eqb, ne_eqb, take-suc}
+use Rattle.std.proofs.Common.{add-one}
 use Rattle.std.specs.Prelude.{nat_lt}
 use Rattle.std.specs.List.{range_with_len, list_any}
 use Rattle.std.specs.Option.{option_map_or}
@@ -22,7 +24,7 @@ use Rattle.za_order.proofs.Processes.{primary-secondary, primary-process}
 use Rattle.za_order.proofs.Numbers.{number-some, numbers_tell_apart}
 use Rattle.za_gossip.specs.Rows.{Rows, rows_after, block_at}
 use Rattle.za_residue.specs.Masks.{is_shared}
-use Rattle.za_local.specs.Shared.{primary_row, is_shared_before}
+use Rattle.za_local.specs.Private.Shared.{primary_row, is_shared_before}
 use Rattle.za_local.proofs.Blocks.{block-of-blocks}
 
 -- a search through the first elements of a list, by their places
@@ -31,7 +33,8 @@ any-of-first test xs zero l = refl
 any-of-first test xs (suc i) l =
     let f : ℕ → Bool = λ j. test (get_or xs j 0) in
     ap (λ n. list_any f (range_with_len 0 n)) (sym (add-one i)) ∙ any-more f i ∙ ap (λ b. b || f i) (any-of-first test xs i (omega arith))
-    ∙ sym (ap (list_any test) (take-suc xs i 0 (omega arith)) ∙ list_any-append test (take i xs) (get_or xs i 0 ∷ []) ∙ ap (λ b. list_any test (take i xs) || b) (or-false (f i)))
+    ∙ sym (ap (list_any test) (take-suc xs i 0 (omega arith)) ∙ list_any-append test (take i xs) (get_or xs i 0 ∷ [])
+    ∙ ap (λ b. list_any test (take i xs) || b) (or-false (f i)))
 
 module _ (alphabet : DistributedAlphabet) (whole : IsDistributed alphabet) (w : List ℕ) (word : IsWord (length alphabet.letters) w) where
   abbrev loc : ℕ → List ℕ
@@ -74,12 +77,14 @@ module _ (alphabet : DistributedAlphabet) (whole : IsDistributed alphabet) (w : 
                   (and_right (nat_lt s (length row)) (not (slice_index row s == 0)) (ap not (eq-eqb (slice_index row s) 0 here)))
               | inr ge ↦
                   let out : nat_lt s (length row) ≡ false = grind (arith, nat_tests) in
-                  and_left (nat_lt s (length row) && not (slice_index row s == 0)) (has other (slice_index row s)) (and_left (nat_lt s (length row)) (not (slice_index row s == 0)) out)
+                  and_left (nat_lt s (length row) && not (slice_index row s == 0)) (has other (slice_index row s))
+                  (and_left (nat_lt s (length row)) (not (slice_index row s == 0)) out)
             ]
             ∙ sym (ap found none)
         | inr one ↦
             let e : ℕ = one.0 in
-            let lt = primary-process loc (length alphabet.letters) n w (word-over loc (length alphabet.letters) n w whole.located word) (length w) (omega arith) x s e one.1 in
+            let lt = primary-process loc (length alphabet.letters) n w (word-over loc (length alphabet.letters) n w whole.located word) (length w)
+            (omega arith) x s e one.1 in
             let inside : nat_lt s (length row) ≡ true = grind (arith, nat_tests) in
             let here : slice_index row s ≡ (known x).primary s = get_or-map-range_with_len (known x).primary 0 n s s 0 lt (omega arith) in
             let some : not (slice_index row s == 0) ≡ true =
@@ -102,7 +107,8 @@ module _ (alphabet : DistributedAlphabet) (whole : IsDistributed alphabet) (w : 
   shared-primary x y s =
       shared-with x s (λ t. primary who (length w) y t)
       (λ t h. sym (as-secondary y t)
-      ∙ numbers_tell_apart loc (length alphabet.letters) n w (length w) y t t x s s whole.located word (omega arith) (ap (number loc n w) (as-secondary y t) ∙ h ∙ sym (ap (number loc n w) (as-secondary x s)))
+      ∙ numbers_tell_apart loc (length alphabet.letters) n w (length w) y t t x s s whole.located word (omega arith) (ap (number loc n w) (as-secondary y t)
+      ∙ h ∙ sym (ap (number loc n w) (as-secondary x s)))
       ∙ as-secondary x s)
 
   -- with the secondary row of b for r
@@ -112,13 +118,15 @@ module _ (alphabet : DistributedAlphabet) (whole : IsDistributed alphabet) (w : 
   shared-secondary x b r s =
       shared-with x s (λ t. secondary who (length w) b r t)
       (λ t h.
-      numbers_tell_apart loc (length alphabet.letters) n w (length w) b r t x s s whole.located word (omega arith) (h ∙ sym (ap (number loc n w) (as-secondary x s)))
+      numbers_tell_apart loc (length alphabet.letters) n w (length w) b r t x s s whole.located word (omega arith)
+      (h ∙ sym (ap (number loc n w) (as-secondary x s)))
       ∙ as-secondary x s)
 
   module _ (xs : List ℕ) (inputs : List Rows) (given : inputs ≡ map (rows_after loc n w) xs) where
     -- the primary row of an input
     pub row-at : (i : ℕ) (r : Rows) → i < length inputs → get_or inputs i r ≡ rows_after loc n w (get_or xs i 0)
-    row-at i r l = ap (λ rs. get_or rs i r) given ∙ get_or-map (rows_after loc n w) xs i 0 r (let e = ap length given ∙ length-map xs (rows_after loc n w) in omega arith)
+    row-at i r l = ap (λ rs. get_or rs i r) given ∙ get_or-map (rows_after loc n w) xs i 0 r (let e = ap length given ∙ length-map xs (rows_after loc n w) in
+        omega arith)
 
     primary-at : (i : ℕ) → i < length inputs → primary_row inputs i ≡ map (known (get_or xs i 0)).primary range
     primary-at i l = ap (λ (r : Rows). r.primary) (row-at i (record { primary = []; secondary = []; tertiary = [] }) l)
@@ -130,15 +138,18 @@ module _ (alphabet : DistributedAlphabet) (whole : IsDistributed alphabet) (w : 
         let x : ℕ = get_or xs i 0 in
         let one = λ (y : ℕ) (e : ℕ). list_any (λ t. is_event (primary who (length w) y t) e) range in
         let found = λ (o : Option ℕ). option_map_or (λ e. list_any (λ y. one y e) (take i xs)) o false in
-        any-same (λ j. is_shared (primary_row inputs i) (primary_row inputs j) s) (λ j. option_map_or (one (get_or xs j 0)) (primary who (length w) x s) false) i
+        any-same (λ j. is_shared (primary_row inputs i) (primary_row inputs j) s) (λ j. option_map_or (one (get_or xs j 0)) (primary who (length w) x s) false)
+        i
         (λ j k.
         ap (λ r. is_shared r (primary_row inputs j) s) (primary-at i l) ∙ ap (λ r. is_shared (map (known x).primary range) r s) (primary-at j (omega arith))
         ∙ shared-primary x (get_or xs j 0) s)
         ∙ elim (option-cases (primary who (length w) x s)) [
           | inl none ↦
-              any-none (λ j. option_map_or (one (get_or xs j 0)) (primary who (length w) x s) false) i (λ j k. ap (λ o. option_map_or (one (get_or xs j 0)) o false) none) ∙ sym (ap found none)
+              any-none (λ j. option_map_or (one (get_or xs j 0)) (primary who (length w) x s) false) i
+              (λ j k. ap (λ o. option_map_or (one (get_or xs j 0)) o false) none) ∙ sym (ap found none)
           | inr e ↦
-              any-same (λ j. option_map_or (one (get_or xs j 0)) (primary who (length w) x s) false) (λ j. one (get_or xs j 0) e.0) i (λ j k. ap (λ o. option_map_or (one (get_or xs j 0)) o false) e.1)
+              any-same (λ j. option_map_or (one (get_or xs j 0)) (primary who (length w) x s) false) (λ j. one (get_or xs j 0) e.0) i
+              (λ j k. ap (λ o. option_map_or (one (get_or xs j 0)) o false) e.1)
               ∙ any-of-first (λ y. one y e.0) xs i (omega arith)
               ∙ sym (ap found e.1)
         ]
@@ -149,6 +160,7 @@ module _ (alphabet : DistributedAlphabet) (whole : IsDistributed alphabet) (w : 
   shared-under xs x r s out l =
       let b : ℕ = best who n (length w) xs r in
       let found : Bool = option_map_or (λ e. list_any (λ t. is_event (secondary who (length w) b r t) e) range) (primary who (length w) x s) false in
-      ap (λ row. is_shared (map (known x).primary range) row s) (block-of-blocks (λ q. map ((known b).secondary q) range) n (λ q. length-map-range_with_len ((known b).secondary q) 0 n) n r l)
+      ap (λ row. is_shared (map (known x).primary range) row s)
+      (block-of-blocks (λ q. map ((known b).secondary q) range) n (λ q. length-map-range_with_len ((known b).secondary q) 0 n) n r l)
       ∙ shared-secondary x b r s
       ∙ sym (ap (λ v. not v && found) out)

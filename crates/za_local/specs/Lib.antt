@@ -2,4 +2,5 @@ pub mod Locals
 pub mod Benches
 pub mod Inside
 pub mod Laws
-pub mod Shared
+pub mod Same
+pub mod Private

@@ -1,12 +1,14 @@
-ghost use Rattle.std.specs.Prelude.{◌≡◌, ◌<◌, ◌≤◌, ◌==◌, [], ◌∷◌, ◌++◌, length, replicate, IfOk};
+ghost use Rattle.std.specs.Prelude.{◌≡◌, ◌<◌, ◌≤◌, ◌==◌, ◌↔◌, [], ◌∷◌, ◌++◌, length, replicate, slice_get, Some};
+ghost use Rattle.std.specs.Prelude.{IsTrue, IfOk};
 ghost use Rattle.za_gossip.specs.Rows.{blank_rows};
 ghost use Rattle.za_residue.specs.Functions.{identities};
 ghost use Rattle.za_local.specs.Locals.{HasShape};
 ghost use Rattle.za_local.specs.Benches.{none_of, gossips_of, residues_of};
 
-use crate::local::Local;
+use crate::local::{Local, same_gossip};
 use std::alloc::Global;
 use std::marker::Model;
+use std::mem::swap;
 use za_alpha::{MOST_PROCESSES, OutOfMemory};
 use za_dfa::Closed;
 use za_gossip::Gossip;
@@ -68,6 +70,29 @@ impl Bench {
         self.gossips[self.len].copy_from(local.gossip());
         self.residues[self.len].copy_from(local.residues());
         self.len += 1;
+    }
+
+    /// Puts a local state beside the others, in exchange for one of its shape. There are fewer than
+    /// processes, and it is for as many processes and states as the bench. It takes no memory.
+    pub fn exchange(&mut self, local: &mut Local)
+        requires room { length self.old.locals < self.old.processes }
+        requires shape { HasShape self.old.processes self.old.states local.old }
+        ensures bench { self.new ≡ record self.old { locals = self.old.locals ++ local.old ∷ [] } }
+        ensures shape { HasShape self.old.processes self.old.states local.new }
+    {
+        swap(&mut self.gossips[self.len], &mut local.gossip);
+        swap(&mut self.residues[self.len], &mut local.residues);
+        self.len += 1;
+    }
+
+    /// Whether the local state at place `i` is this one, which is for as many processes and states.
+    /// It takes no memory.
+    pub fn has(&self, i: usize, local: &Local) -> bool
+        requires place { i < length self.now.locals }
+        requires shape { HasShape self.now.processes self.now.states local.now }
+        ensures { IsTrue result ↔ (slice_get self.now.locals i ≡ Some local.now) }
+    {
+        same_gossip(&self.gossips[i], local.gossip()) && self.residues[i].equals(local.residues())
     }
 
     /// How many local states there are.

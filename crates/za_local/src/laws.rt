@@ -3,7 +3,6 @@
 ghost use Rattle.za_local.specs.Laws.{OthersKeepLocals, ParticipantsAgreeOnLocals, SameTraceSameLocals};
 
 /// After an event all its participants have one local state, and all other processes keep theirs.
-#[tactic(auto, using(crate::proofs::LocalLaws::others_keep_locals, crate::proofs::LocalLaws::participants_agree_on_locals))]
 pub fn locals_after_an_event()
     ensures others { OthersKeepLocals }
     ensures participants { ParticipantsAgreeOnLocals }

@@ -3,6 +3,7 @@
 #![tactic(auto)]
 
 mod bench;
+mod firing;
 mod laws;
 mod local;
 mod masks;
@@ -11,6 +12,7 @@ mod tests;
 mod transitions;
 
 pub use bench::Bench;
+pub use firing::{fire_on, openings};
 pub use laws::{locals_after_an_event, same_trace_same_locals};
 pub use local::{Local, equal, opening};
 pub use transitions::{transit, verdict, view_state};

@@ -33,7 +33,7 @@ impl Model for Local {
     ghost invariant = { IsWholeInside };
 }
 
-/// The local state of every process before any event.
+/// The local state of every process before any event. Want of memory is the one free answer.
 pub fn opening(alloc: Global, closed: &Closed) -> Result<Local, OutOfMemory>
     ensures { IfOk result (λ l. (p : ℕ) → l ≡ local_after closed.now [] p) }
 {
@@ -70,6 +70,28 @@ impl Local {
     }
 }
 
+impl PartialEq for Local {
+    ghost use Rattle.std.specs.Cmp.{partial_equiv_from_equiv};
+    ghost use Rattle.za_local.specs.Same.{same_local, same_local_equiv};
+
+    ghost eq = { same_local };
+
+    ghost laws = { partial_equiv_from_equiv same_local_equiv };
+
+    /// Whether two local states are the same in all numbers, shapes among them. It takes no memory.
+    fn eq(&self, other: &Local) -> bool {
+        is_shaped_as(self, other) && equal(self, other)
+    }
+}
+
+/// Whether two local states are for as many processes and states.
+fn is_shaped_as(a: &Local, b: &Local) -> bool
+    ensures value { IsTrue result ↔ IsShapedAs a.now b.now }
+    ensures whole { a.now.residues.processes ≡ length a.now.gossip.primary }
+{
+    a.residues.processes() == b.residues.processes() && a.residues.states() == b.residues.states()
+}
+
 /// Whether two local states are the same in all numbers. It takes no memory.
 pub fn equal(a: &Local, b: &Local) -> bool
     requires { IsShapedAs a.now b.now }
@@ -79,7 +101,7 @@ pub fn equal(a: &Local, b: &Local) -> bool
 }
 
 /// Whether what two processes keep of events is the same.
-fn same_gossip(a: &Gossip, b: &Gossip) -> bool
+pub(crate) fn same_gossip(a: &Gossip, b: &Gossip) -> bool
     requires { length a.now.primary ≡ length b.now.primary }
     ensures { IsTrue result ↔ (a.now ≡ b.now) }
 {

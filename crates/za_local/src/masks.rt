@@ -1,13 +1,11 @@
-ghost use Rattle.std.specs.Prelude.{◌≡◌, ℕ, ◌≤◌, ◌<◌, false, All, List, length, take, slice_index, slice_index_or};
-ghost use Rattle.std.specs.List.{range_with_len};
+ghost use Rattle.std.specs.Prelude.{◌≡◌, ℕ, ◌≤◌, ◌<◌, All, IfSome, List, [], length, slice_index_or};
+ghost use Rattle.za_alpha.specs.Limits.{most_processes};
 ghost use Rattle.za_alpha.specs.Words.{has};
 ghost use Rattle.za_alpha.specs.Procs.{members, no_process};
 ghost use Rattle.za_alpha.specs.Alphabet.{IsDistributed, loc_of};
-ghost use Rattle.za_order.specs.Views.{participants};
-ghost use Rattle.za_order.specs.Locals.{earlier, under};
 ghost use Rattle.za_gossip.specs.Rows.{Rows, AreRowsAfter};
-ghost use Rattle.za_residue.specs.Masks.{is_earlier, is_under};
-ghost use Rattle.za_local.specs.Shared.{is_shared_before, AreAllRowsAfter};
+ghost use Rattle.za_residue.specs.Masks.{AreMasksAfter};
+ghost use Rattle.za_local.specs.Private.Shared.{meeting_of, is_shared_before, IsBest, AreBests, under_at};
 
 use za_alpha::{Alphabet, Letter, MOST_PROCESSES, Procs};
 use za_gossip::{Gossip, newest};
@@ -16,56 +14,39 @@ use za_residue::{Masks, below};
 /// No process, for each process.
 const NOBODY: [Procs; MOST_PROCESSES] = [Procs(0); MOST_PROCESSES];
 
-/// What the participants of a letter share of each other's views, by the rows that each keeps after
-/// some word, in rising order of processes.
-pub(crate) fn masks_of(alphabet: &Alphabet, a: Letter, inputs: &[Gossip]) -> Masks
-    requires letter { a.0 < length alphabet.now.letters }
-    requires rows { (w : List ℕ) × AreRowsAfter alphabet.now w a.0 inputs.now }
+/// What the participants of a letter, or all processes, share of each other's views, by the rows
+/// that each keeps after some word, in rising order of processes.
+pub(crate) fn masks_of(alphabet: &Alphabet, a: Option<Letter>, inputs: &[Gossip]) -> Masks
+    requires letter { IfSome a (λ a. a.0 < length alphabet.now.letters) }
+    requires rows { (w : List ℕ) × AreRowsAfter alphabet.now w (meeting_of alphabet.now a) inputs.now }
     ensures whole { IsDistributed alphabet.now }
-    ensures earlier { (w : List ℕ) → AreRowsAfter alphabet.now w a.0 inputs.now → (i s : ℕ) → i < length inputs.now →
-        is_earlier result i s ≡ earlier (participants (loc_of alphabet.now) w) alphabet.now.processes (length w) (take i (loc_of alphabet.now a.0)) (slice_index (loc_of alphabet.now a.0) i) s }
-    ensures under { (w : List ℕ) → AreRowsAfter alphabet.now w a.0 inputs.now → (i r s : ℕ) → i < length inputs.now → r < alphabet.now.processes →
-        is_under result i r s ≡ under (participants (loc_of alphabet.now) w) alphabet.now.processes (length w) (loc_of alphabet.now a.0) (slice_index (loc_of alphabet.now a.0) i) r s }
+    ensures masks { (w : List ℕ) → AreRowsAfter alphabet.now w (meeting_of alphabet.now a) inputs.now →
+        AreMasksAfter alphabet.now w (meeting_of alphabet.now a) result }
 {
     let n = alphabet.processes();
-    let mut masks = Masks {
-        earlier: earlier_sets(inputs, inputs.len()),
-        under: [NOBODY; MOST_PROCESSES],
-    };
-    for i in 0..inputs.len() {
-        masks.under[i] = under_sets(alphabet, n, a, inputs, i);
-    }
-    masks
-}
-
-/// What all processes share of each other's views, by the rows that each keeps after some word, in
-/// order.
-pub(crate) fn masks_of_all(alphabet: &Alphabet, inputs: &[Gossip]) -> Masks
-    requires { (w : List ℕ) × AreAllRowsAfter alphabet.now w inputs.now }
-    ensures whole { IsDistributed alphabet.now }
-    ensures earlier { (w : List ℕ) → AreAllRowsAfter alphabet.now w inputs.now → (i s : ℕ) → i < alphabet.now.processes →
-        is_earlier result i s
-        ≡ earlier (participants (loc_of alphabet.now) w) alphabet.now.processes (length w)
-        (take i (range_with_len 0 alphabet.now.processes)) (slice_index (range_with_len 0 alphabet.now.processes) i) s }
-    ensures under { (i r s : ℕ) → is_under result i r s ≡ false }
-{
-    let n = alphabet.processes();
-    Masks {
-        earlier: earlier_sets(inputs, n),
-        under: [NOBODY; MOST_PROCESSES],
+    let earlier = earlier_sets(inputs);
+    match a {
+        None => Masks {
+            earlier,
+            under: [NOBODY; MOST_PROCESSES],
+        },
+        Some(a) => Masks {
+            earlier,
+            under: under_rows(alphabet, n, a, inputs),
+        },
     }
 }
 
-/// For each of the first inputs, the processes whose latest event that it knows an input before it
-/// has as a latest event too.
-fn earlier_sets(inputs: &[Gossip], count: usize) -> [Procs; MOST_PROCESSES]
-    requires few { count ≤ MOST_PROCESSES }
-    requires inputs { count ≤ length inputs.now }
+/// For each input, the processes whose latest event that it knows an input before it has as a latest
+/// event too.
+fn earlier_sets(inputs: &[Gossip]) -> [Procs; MOST_PROCESSES]
+    requires few { length inputs.now ≤ most_processes }
     requires rows { All (λ (rows : Rows). length rows.primary ≤ 16) inputs.now }
-    ensures { (i s : ℕ) → i < count → has (members (slice_index_or result i no_process)) s ≡ is_shared_before inputs.now i s }
+    ensures { (i s : ℕ) → i < length inputs.now →
+        has (members (slice_index_or result i no_process)) s ≡ is_shared_before inputs.now i s }
 {
     let mut sets = NOBODY;
-    for i in 0..count {
+    for i in 0..inputs.len() {
         sets[i] = earlier_of(inputs, i);
     }
     sets
@@ -84,43 +65,94 @@ fn earlier_of(inputs: &[Gossip], i: usize) -> Procs
     earlier
 }
 
-/// For each process `r` that takes no part, the processes whose latest event that an input knows was
-/// known at the latest event of `r` that any input knows.
+/// For each participant and each process `r` that takes no part, the processes whose latest event
+/// that the participant knows was known at the latest event of `r` that any participant knows.
+fn under_rows(
+    alphabet: &Alphabet,
+    n: usize,
+    a: Letter,
+    inputs: &[Gossip],
+) -> [[Procs; MOST_PROCESSES]; MOST_PROCESSES]
+    requires processes { n ≡ alphabet.now.processes }
+    requires whole { IsDistributed alphabet.now }
+    requires letter { a.0 < length alphabet.now.letters }
+    requires rows { (w : List ℕ) × AreRowsAfter alphabet.now w (loc_of alphabet.now a.0) inputs.now }
+    ensures { (w : List ℕ) → AreRowsAfter alphabet.now w (loc_of alphabet.now a.0) inputs.now →
+        (i r s : ℕ) → i < length inputs.now → r < alphabet.now.processes →
+        has (members (slice_index_or (slice_index_or result i []) r no_process)) s ≡ under_at alphabet.now a.0 w i r s }
+{
+    let bests = bests_of(alphabet, n, a, inputs);
+    let mut rows = [NOBODY; MOST_PROCESSES];
+    for i in 0..inputs.len() {
+        rows[i] = under_sets(alphabet, n, a, inputs, &bests, i);
+    }
+    rows
+}
+
+/// For each process that takes no part, the index of the input that has the latest news of it.
+fn bests_of(alphabet: &Alphabet, n: usize, a: Letter, inputs: &[Gossip]) -> [usize; MOST_PROCESSES]
+    requires processes { n ≡ alphabet.now.processes }
+    requires whole { IsDistributed alphabet.now }
+    requires letter { a.0 < length alphabet.now.letters }
+    requires rows { (w : List ℕ) × AreRowsAfter alphabet.now w (loc_of alphabet.now a.0) inputs.now }
+    ensures room { alphabet.now.processes ≤ length result }
+    ensures bests { AreBests alphabet.now a.0 inputs.now result }
+{
+    let mut bests = [0; MOST_PROCESSES];
+    for r in 0..n {
+        if !alphabet.loc(a).has(r) {
+            bests[r] = newest(alphabet, a, inputs, r);
+        }
+    }
+    bests
+}
+
+/// The processes of one participant, for each process that takes no part.
 fn under_sets(
     alphabet: &Alphabet,
     n: usize,
     a: Letter,
     inputs: &[Gossip],
+    bests: &[usize; MOST_PROCESSES],
     i: usize,
 ) -> [Procs; MOST_PROCESSES]
     requires processes { n ≡ alphabet.now.processes }
     requires whole { IsDistributed alphabet.now }
     requires letter { a.0 < length alphabet.now.letters }
-    requires rows { (w : List ℕ) × AreRowsAfter alphabet.now w a.0 inputs.now }
+    requires rows { (w : List ℕ) × AreRowsAfter alphabet.now w (loc_of alphabet.now a.0) inputs.now }
+    requires bests { AreBests alphabet.now a.0 inputs.now bests.now }
     requires input { i < length inputs.now }
-    ensures { (w : List ℕ) → AreRowsAfter alphabet.now w a.0 inputs.now → (r s : ℕ) → r < alphabet.now.processes → has (members (slice_index_or result r no_process)) s
-        ≡ under (participants (loc_of alphabet.now) w) alphabet.now.processes (length w) (loc_of alphabet.now a.0) (slice_index (loc_of alphabet.now a.0) i) r s }
+    ensures { (w : List ℕ) → AreRowsAfter alphabet.now w (loc_of alphabet.now a.0) inputs.now →
+        (r s : ℕ) → r < alphabet.now.processes →
+        has (members (slice_index_or result r no_process)) s ≡ under_at alphabet.now a.0 w i r s }
 {
     let mut sets = NOBODY;
     for r in 0..n {
-        sets[r] = under_of(alphabet, a, inputs, i, r);
+        sets[r] = under_of(alphabet, a, inputs, bests[r], i, r);
     }
     sets
 }
 
 /// The same for one process.
-fn under_of(alphabet: &Alphabet, a: Letter, inputs: &[Gossip], i: usize, r: usize) -> Procs
+fn under_of(
+    alphabet: &Alphabet,
+    a: Letter,
+    inputs: &[Gossip],
+    best: usize,
+    i: usize,
+    r: usize,
+) -> Procs
     requires whole { IsDistributed alphabet.now }
     requires letter { a.0 < length alphabet.now.letters }
-    requires rows { (w : List ℕ) × AreRowsAfter alphabet.now w a.0 inputs.now }
+    requires rows { (w : List ℕ) × AreRowsAfter alphabet.now w (loc_of alphabet.now a.0) inputs.now }
     requires input { i < length inputs.now }
     requires process { r < alphabet.now.processes }
-    ensures { (w : List ℕ) → AreRowsAfter alphabet.now w a.0 inputs.now → (s : ℕ) → has (members result) s
-        ≡ under (participants (loc_of alphabet.now) w) alphabet.now.processes (length w) (loc_of alphabet.now a.0) (slice_index (loc_of alphabet.now a.0) i) r s }
+    requires best { IsBest alphabet.now a.0 inputs.now r best }
+    ensures { (w : List ℕ) → AreRowsAfter alphabet.now w (loc_of alphabet.now a.0) inputs.now →
+        (s : ℕ) → has (members result) s ≡ under_at alphabet.now a.0 w i r s }
 {
     if alphabet.loc(a).has(r) {
         return Procs::none();
     }
-    let best = newest(alphabet, a, inputs, r);
     below(inputs[i].primary(), inputs[best].secondary(r))
 }

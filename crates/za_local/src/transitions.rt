@@ -4,11 +4,11 @@ ghost use Rattle.za_alpha.specs.Alphabet.{loc_of};
 ghost use Rattle.za_order.specs.Labels.{label};
 ghost use Rattle.za_dfa.specs.Automata.{walk};
 ghost use Rattle.za_dfa.specs.Tables.{step_of};
-ghost use Rattle.za_local.specs.Locals.{local_after, AreLocalsAfter, all_processes, HasShape, view_state_after};
+ghost use Rattle.za_local.specs.Locals.{local_after, AreLocalsAfter, AreAllLocalsAfter, HasShape, view_state_after};
 
 use crate::bench::Bench;
 use crate::local::Local;
-use crate::masks::{masks_of, masks_of_all};
+use crate::masks::masks_of;
 use za_alpha::{Letter, Procs};
 use za_dfa::Closed;
 
@@ -25,11 +25,12 @@ pub fn transit(closed: &Closed, a: Letter, bench: &Bench, into: &mut Local) -> u
     ensures label { (w : List ℕ) → AreLocalsAfter closed.now w (loc_of closed.now.alphabet a.0) bench.now.locals →
         result ≡ label (loc_of closed.now.alphabet) closed.now.alphabet.processes (w ++ a.0 ∷ []) (length w) }
     ensures local { (w : List ℕ) → AreLocalsAfter closed.now w (loc_of closed.now.alphabet a.0) bench.now.locals →
-        (x : ℕ) → IsTrue (has (loc_of closed.now.alphabet a.0) x) → into.new ≡ local_after closed.now (w ++ a.0 ∷ []) x }
+        (x : ℕ) → IsTrue (has (loc_of closed.now.alphabet a.0) x) →
+        into.new ≡ local_after closed.now (w ++ a.0 ∷ []) x }
     ensures shape { HasShape closed.now.alphabet.processes closed.now.states into.new }
 {
     let alphabet = closed.dfa().alphabet();
-    let masks = masks_of(alphabet, a, bench.gossips());
+    let masks = masks_of(alphabet, Some(a), bench.gossips());
     za_residue::advance(closed, a, bench.residues(), &masks, &mut into.residues);
     za_gossip::advance(alphabet, a, bench.gossips(), &mut into.gossip)
 }
@@ -37,10 +38,11 @@ pub fn transit(closed: &Closed, a: Letter, bench: &Bench, into: &mut Local) -> u
 /// Where the word leads from the start, from the local states of all processes after it, which
 /// `bench` has in order. It takes no memory.
 pub fn verdict(closed: &Closed, bench: &Bench) -> u8
-    requires locals { (w : List ℕ) × AreLocalsAfter closed.now w (all_processes closed.now) bench.now.locals }
-    ensures { (w : List ℕ) → AreLocalsAfter closed.now w (all_processes closed.now) bench.now.locals → result ≡ walk (step_of closed.now) closed.now.start w }
+    requires { (w : List ℕ) × AreAllLocalsAfter closed.now w bench.now.locals }
+    ensures { (w : List ℕ) → AreAllLocalsAfter closed.now w bench.now.locals →
+        result ≡ walk (step_of closed.now) closed.now.start w }
 {
-    let masks = masks_of_all(closed.dfa().alphabet(), bench.gossips());
+    let masks = masks_of(closed.dfa().alphabet(), None, bench.gossips());
     za_residue::join_all(closed, bench.residues(), &masks)
 }
 
@@ -48,7 +50,8 @@ pub fn verdict(closed: &Closed, bench: &Bench) -> u8
 pub fn view_state(closed: &Closed, local: &Local) -> u8
     requires { HasShape closed.now.alphabet.processes closed.now.states local.now }
     ensures within { result < closed.now.states }
-    ensures state { (w : List ℕ) (p : ℕ) → local.now ≡ local_after closed.now w p → result ≡ view_state_after closed.now w p }
+    ensures state { (w : List ℕ) (p : ℕ) → local.now ≡ local_after closed.now w p →
+        result ≡ view_state_after closed.now w p }
 {
     local.residues.apply(Procs::none(), closed.dfa().start())
 }

@@ -1,11 +1,11 @@
 -- Steps of the word that tells two states apart as it is read off the rounds.
 use Rattle.std.proofs.Common.{◌≡◌, ℕ, suc, ◌<◌, List, [], ◌∷◌, ◌++◌, length, slice_index, get_or, sym, ap, subst, ◌∙◌, arith, append_assoc}
 use Rattle.std.proofs.lemmas.List.{get_or_read}
-use Rattle.za_alpha.specs.Words.{least}
+use Rattle.za_alpha.specs.Search.{least}
 use Rattle.za_dfa.specs.Automata.{Automaton, IsTotal}
 use Rattle.za_dfa.specs.Tables.{CompleteDfa, automaton_of}
 use Rattle.za_dfa.proofs.TableLemmas.{total_of_complete}
-use Rattle.za_min.specs.Rounds.{AreAlike, rounds, splits, split_word, AreRoundsOf, IsSplit}
+use Rattle.za_min.specs.Private.Rounds.{AreAlike, rounds, splits, split_word, AreRoundsOf, IsSplit}
 use Rattle.za_min.proofs.RoundLemmas.{stable_classes, length-rounds}
 use Rattle.za_min.proofs.RoundSteps.{row-is, rows-long}
 use Rattle.za_min.proofs.Split.{split-next}

@@ -3,8 +3,8 @@ use Rattle.std.proofs.Common.{◌≡◌, ◌+◌, ◌*◌, true, false, [], ◌�
 use Rattle.std.specs.Prelude.{nat_le}
 use Rattle.za_dfa.specs.Automata.{Automaton, walk}
 use Rattle.za_min.specs.Shortlex.{comes_before}
-use Rattle.za_min.specs.Rounds.{refine, rounds, split_word}
-use Rattle.za_min.specs.Exploring.{merged}
+use Rattle.za_min.specs.Private.Rounds.{refine, rounds, split_word}
+use Rattle.za_min.specs.Private.Exploring.{merged}
 
 -- a shorter word comes first, and of two as long the one with the lesser first letter
 shorter : comes_before (1 ∷ []) (0 ∷ 0 ∷ []) ≡ true

@@ -13,7 +13,7 @@ use Rattle.za_dfa.specs.Automata.{Automaton, IsTotal}
 use Rattle.za_dfa.proofs.Diamonds.{walk-append, walk-below}
 use Rattle.za_min.specs.Shortlex.{comes_before}
 use Rattle.za_min.specs.Minimal.{word_at}
-use Rattle.za_min.specs.Exploring.{state_of, IsDone, IsLonger, IsMet, AreFound}
+use Rattle.za_min.specs.Private.Exploring.{state_of, IsDone, IsLonger, IsMet, AreFound}
 use Rattle.za_min.proofs.Order.{before-not-self, before-not-back, before-more, before-last, before-nil, not-before-trans, not-before-more}
 
 -- a value of a map is that of an element

@@ -6,8 +6,8 @@ use Rattle.za_dfa.specs.Tables.{CompleteDfa, automaton_of}
 use Rattle.za_dfa.proofs.Diamonds.{walk-append}
 use Rattle.za_dfa.proofs.TableLemmas.{total_of_complete}
 use Rattle.za_min.specs.Minimal.{word_at}
-use Rattle.za_min.specs.Rounds.{AreClassesOf}
-use Rattle.za_min.specs.Exploring.{merged_of, state_of, AreStatesOf, AreFound, AreFoundStates}
+use Rattle.za_min.specs.Private.Rounds.{AreClassesOf}
+use Rattle.za_min.specs.Private.Exploring.{merged_of, state_of, AreStatesOf, AreFound, AreFoundStates}
 use Rattle.za_min.proofs.RoundLemmas.{length-rounds}
 use Rattle.za_min.proofs.Merge.{merged-total, merged-own}
 use Rattle.za_min.proofs.Found.{stays, grows, next-row, found-start, found-few}

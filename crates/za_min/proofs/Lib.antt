@@ -10,4 +10,5 @@ pub mod FoundSteps
 pub mod TableSteps
 pub mod ApartSteps
 pub mod Minimised
+pub mod Existence
 mod Examples

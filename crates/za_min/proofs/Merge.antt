@@ -5,8 +5,8 @@ use Rattle.za_alpha.specs.Words.{IsWord}
 use Rattle.za_dfa.specs.Automata.{Automaton, IsTotal, walk, is_accepted}
 use Rattle.za_dfa.proofs.Diamonds.{walk-below}
 use Rattle.za_min.specs.Minimal.{AreToldApart}
-use Rattle.za_min.specs.Rounds.{AreAlike, AreClasses}
-use Rattle.za_min.specs.Exploring.{merged, state_of}
+use Rattle.za_min.specs.Private.Rounds.{AreAlike, AreClasses}
+use Rattle.za_min.specs.Private.Exploring.{merged, state_of}
 use Rattle.za_min.proofs.RoundLemmas.{stable_classes, rounds-le, rounds-own}
 use Rattle.za_min.proofs.Split.{split-found, split-least}
 

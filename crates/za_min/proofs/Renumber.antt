@@ -5,7 +5,7 @@ use Rattle.za_alpha.specs.Words.{IsWord}
 use Rattle.za_dfa.specs.Automata.{Automaton, IsTotal, walk}
 use Rattle.za_dfa.proofs.Diamonds.{walk-below}
 use Rattle.za_min.specs.Minimal.{word_at, AreToldApart, IsMinimal, IsNumberedBy, HaveSameLanguage}
-use Rattle.za_min.specs.Exploring.{state_of, AreFound, Renumbers}
+use Rattle.za_min.specs.Private.Exploring.{state_of, AreFound, Renumbers}
 use Rattle.za_min.proofs.Found.{same-place, found-least}
 
 module _ (d : Automaton) (words : List (List ℕ)) (done : ℕ) (s : AreFound d done 0 words) (all : length words ≤ done) (e : Automaton) (new : Renumbers d words e) where

@@ -1,15 +1,16 @@
 -- After n rounds states are in one class exactly if no word of at most n letters tells them apart.
-use Rattle.std.proofs.Common.{◌≡◌, ℕ, zero, suc, ◌<◌, ◌≤◌, Bool, true, false, ◌↔◌, List, [], ◌∷◌, ◌==◌, length, slice_index, refl, sym, ap, subst, ◌∙◌, arith, eqb-true, eq-eqb, cond}
+use Rattle.std.proofs.Common.{◌≡◌, ℕ, zero, suc, ◌<◌, ◌≤◌, Bool, true, false, ◌↔◌, List, [], ◌∷◌, ◌==◌, Option, Some, None, length, slice_index, refl, sym, ap, subst, ◌∙◌, arith, eqb-true, eq-eqb, cond}
 use Rattle.std.specs.List.{list_all, range_with_len}
 use Rattle.std.specs.Cmp.{both_ways}
 use Rattle.std.proofs.lemmas.Bool.{and_parts, and_from}
 use Rattle.std.proofs.lemmas.List.FromFn.{get_or-map-range_with_len, length-map-range_with_len}
 use Rattle.std.proofs.lemmas.List.Elements.{All-head, All-tail, All-cons, All-nil}
-use Rattle.za_alpha.specs.Words.{IsWord, least}
+use Rattle.za_alpha.specs.Words.{IsWord}
+use Rattle.za_alpha.specs.Search.{least}
 use Rattle.za_alpha.proofs.Least.{least-true, least-le}
 use Rattle.za_dfa.proofs.GridLemmas.{range_elim, range_intro}
 use Rattle.za_dfa.specs.Automata.{Automaton, IsTotal, walk}
-use Rattle.za_min.specs.Rounds.{AreAlike, are_same, classes_by, same_end, same_next, refine, rounds}
+use Rattle.za_min.specs.Private.Rounds.{AreAlike, are_same, classes_by, same_end, same_next, same_after, refine, rounds}
 
 -- tests that agree have one least number
 least-agree : (s t : ℕ → Bool) (n : ℕ) → ((k : ℕ) → s k ≡ t k) → least s n ≡ least t n
@@ -88,6 +89,11 @@ module _ (d : Automaton) where
         turned = λ q r h. let k = next-parts c q r h in next-from c r q (sym k.0) (λ a l. sym (k.1 a l));
         joined = λ q r s h k. let x = next-parts c q r h in let y = next-parts c r s k in next-from c q s (x.0 ∙ y.0) (λ a l. x.1 a l ∙ y.1 a l);
       }
+
+-- a state is in its class of the next round
+pub after-own : (d : Automaton) (before : Option (List ℕ)) (q : ℕ) → same_after d before q q ≡ true
+after-own d None q = (test-first d).own q
+after-own d (Some classes) q = (test-next d classes).own q
 
 module _ (d : Automaton) (total : IsTotal d) where
   -- no short word tells the states of a class apart

@@ -8,15 +8,15 @@ use Rattle.std.proofs.Math.Bool.{beq}
 use Rattle.za_dfa.specs.Automata.{Automaton}
 use Rattle.za_dfa.specs.Tables.{CompleteDfa, automaton_of}
 use Rattle.za_min.specs.Minimal.{word_at}
-use Rattle.za_min.specs.Rounds.{are_same, same_next, rounds, AreRounds, AreRoundsOf, AreClassesOf}
+use Rattle.za_min.specs.Private.Rounds.{are_same, same_next, rounds, AreRounds, AreRoundsOf, AreClassesOf}
 use Rattle.za_min.proofs.RoundLemmas.{next-parts, rounds-grow, rounds-le, length-rounds}
 
 -- answers that are equal are the same
-pub same-beq : (a b : Bool) → beq a b ≡ true → are_same a b ≡ true
-same-beq true true h = refl
-same-beq true false h = cc
-same-beq false true h = cc
-same-beq false false h = refl
+pub same-beq : (a b : Bool) → beq a b ≡ are_same a b
+same-beq true true = refl
+same-beq true false = refl
+same-beq false true = refl
+same-beq false false = refl
 
 -- a letter that leads into two classes
 pub not-same-next : (d : Automaton) (c : List ℕ) (q r a : ℕ) → a < d.letters → slice_index c (d.step q a) ≢ slice_index c (d.step r a) → false ≡ same_next d c q r

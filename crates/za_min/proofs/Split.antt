@@ -2,12 +2,13 @@
 use Rattle.std.proofs.Common.{◌≡◌, ◌≢◌, ℕ, zero, suc, ◌<◌, ◌≤◌, Bool, true, false, ◌&&◌, inl, inr, List, [], ◌∷◌, ◌==◌, nat_lt, length, slice_index, refl, ap, subst, ◌∙◌, arith}
 use Rattle.std.proofs.lemmas.Bool.{cases_lt, cases_eq, eqb-false, or_from, and_left, and_right, ne_eqb, le-ltb, not-true, not_from_false}
 use Rattle.std.proofs.lemmas.List.Elements.{All-head, All-tail, All-cons, All-nil}
-use Rattle.za_alpha.specs.Words.{IsWord, least}
+use Rattle.za_alpha.specs.Words.{IsWord}
+use Rattle.za_alpha.specs.Search.{least}
 use Rattle.za_alpha.proofs.Least.{least-true, least-below, least-le}
 use Rattle.za_dfa.specs.Automata.{Automaton, IsTotal, walk}
 use Rattle.za_min.specs.Shortlex.{is_lower}
 use Rattle.za_min.specs.Minimal.{IsLeastApart}
-use Rattle.za_min.specs.Rounds.{rounds, splits, split_word, IsSplit}
+use Rattle.za_min.specs.Private.Rounds.{rounds, splits, split_word, IsSplit}
 use Rattle.za_min.proofs.RoundLemmas.{rounds-sound, rounds-complete, rounds-back}
 
 module _ (d : Automaton) (total : IsTotal d) where

@@ -11,8 +11,8 @@ use Rattle.za_alpha.specs.Alphabet.{DistributedAlphabet}
 use Rattle.za_dfa.specs.Automata.{Automaton}
 use Rattle.za_dfa.specs.Tables.{CompleteDfa, automaton_of, accepts_at, step_of, target_at, table_with, IsComplete}
 use Rattle.za_min.specs.Minimal.{word_at}
-use Rattle.za_min.specs.Rounds.{AreClassesOf}
-use Rattle.za_min.specs.Exploring.{merged_of, state_of, AreAllFound, IsTarget, AreTargets, Renumbers}
+use Rattle.za_min.specs.Private.Rounds.{AreClassesOf}
+use Rattle.za_min.specs.Private.Exploring.{merged_of, state_of, AreAllFound, IsTarget, AreTargets, Renumbers}
 use Rattle.za_min.proofs.FoundSteps.{state-at, states-of-found, words-few}
 
 -- a place that is found

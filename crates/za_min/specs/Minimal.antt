@@ -2,7 +2,7 @@
 use Rattle.std.specs.Prelude.{◌≡◌, ◌≢◌, ℕ, ◌<◌, List, [], IsTrue, length, slice_index_or}
 use Rattle.za_alpha.specs.Words.{IsWord}
 use Rattle.za_dfa.specs.Automata.{Automaton, walk, is_accepted}
-use Rattle.za_dfa.specs.Tables.{CompleteDfa, automaton_of}
+use Rattle.za_dfa.specs.Tables.{CompleteDfa, IsComplete, automaton_of}
 use Rattle.za_min.specs.Shortlex.{comes_before, IsLeastWord}
 
 -- the word leads from the start to state q
@@ -59,3 +59,12 @@ pub record MinimalDfa : Type 0 where
 pub record IsMinimalDfa (m : MinimalDfa) : Type 0 where
   pub minimal : IsMinimal (automaton_of m.dfa)
   pub numbered : IsNumberedBy (automaton_of m.dfa) m.access
+
+-- the minimal automaton of the language of another, its states numbered by their least access words
+pub record IsMinimalOf (d other : CompleteDfa) : Type 0 where
+  pub complete : IsComplete d
+  pub alphabet : d.alphabet ≡ other.alphabet
+  pub language : HaveSameLanguage (automaton_of d) (automaton_of other)
+  pub minimal : IsMinimal (automaton_of d)
+  pub access : List (List ℕ)
+  pub numbered : IsNumberedBy (automaton_of d) access

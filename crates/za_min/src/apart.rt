@@ -1,9 +1,10 @@
 //! Reading the least word that tells two states apart off the rounds.
 
-ghost use Rattle.std.specs.Prelude.{◌≡◌, ◌<◌, IfOk, MatchOption, length};
-ghost use Rattle.za_alpha.specs.Words.{least};
+ghost use Rattle.std.specs.Prelude.{◌≡◌, ◌≢◌, ◌<◌, IfOk, MatchOption, length};
+ghost use Rattle.za_alpha.specs.Search.{least};
 ghost use Rattle.za_dfa.specs.Tables.{automaton_of};
-ghost use Rattle.za_min.specs.Rounds.{AreAlike, AreRoundsOf, IsSplit, splits, split_word};
+ghost use Rattle.za_min.specs.Minimal.{IsMinimal, IsLeastApart};
+ghost use Rattle.za_min.specs.Private.Rounds.{AreAlike, AreRoundsOf, IsSplit, splits, split_word};
 
 use crate::classes::Classes;
 use std::alloc::Global;
@@ -11,7 +12,7 @@ use za_alpha::{Letter, OutOfMemory, Word};
 use za_dfa::Dfa;
 
 /// The first round that tells two states apart.
-pub(crate) fn round_of_split(dfa: &Dfa, rounds: &[Classes], q: u8, r: u8) -> Option<usize>
+fn round_of_split(dfa: &Dfa, rounds: &[Classes], q: u8, r: u8) -> Option<usize>
     requires rounds { AreRoundsOf dfa.now rounds.now }
     requires first { q < dfa.now.states }
     requires second { r < dfa.now.states }
@@ -45,9 +46,8 @@ fn first_split(dfa: &Dfa, classes: &Classes, q: u8, r: u8) -> u8
     letters
 }
 
-/// The shortlex-least word that tells two states apart, which this round is the first to do. It takes
-/// a step for each letter and round.
-pub(crate) fn split_word(
+/// The shortlex-least word that tells two states apart, which this round is the first to do.
+fn split_word(
     alloc: Global,
     dfa: &Dfa,
     rounds: &[Classes],
@@ -72,4 +72,29 @@ pub(crate) fn split_word(
         right = dfa.step(right, a);
     }
     Ok(word)
+}
+
+/// The shortlex-least word that tells two states of a minimal DFA apart.
+pub(crate) fn word_apart(
+    alloc: Global,
+    dfa: &Dfa,
+    rounds: &[Classes],
+    q: u8,
+    r: u8,
+) -> Result<Option<Word>, OutOfMemory>
+    requires minimal { IsMinimal (automaton_of dfa.now) }
+    requires rounds { AreRoundsOf dfa.now rounds.now }
+    requires first { q < dfa.now.states }
+    requires second { r < dfa.now.states }
+    ensures { IfOk result (λ word. MatchOption word
+        (q ≡ r)
+        (λ w. (q ≢ r) × IsLeastApart (automaton_of dfa.now) q r w)) }
+{
+    match round_of_split(dfa, rounds, q, r) {
+        None => Ok(None),
+        Some(round) => {
+            let word = split_word(alloc, dfa, rounds, round, q, r)?;
+            Ok(Some(word))
+        }
+    }
 }

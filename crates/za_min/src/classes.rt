@@ -1,9 +1,10 @@
 //! Refining classes of states by rounds (Moore 1956).
 
-ghost use Rattle.std.specs.Prelude.{◌≡◌, ◌<◌, ◌↔◌, ℕ, IsTrue, IfOk, length, slice_index};
-ghost use Rattle.za_alpha.specs.Words.{least};
+ghost use Rattle.std.specs.Prelude.{◌≡◌, ◌<◌, ◌↔◌, IsTrue, IfOk, length, slice_index};
+ghost use Rattle.std.specs.Option.{ForSome, option_copied};
+ghost use Rattle.za_alpha.specs.Search.{least};
 ghost use Rattle.za_dfa.specs.Tables.{automaton_of};
-ghost use Rattle.za_min.specs.Rounds.{same_end, same_next, refine, rounds, AreRoundsOf};
+ghost use Rattle.za_min.specs.Private.Rounds.{same_next, same_after, classes_after, AreRoundsOf};
 
 use std::alloc::Global;
 use std::marker::Model;
@@ -22,19 +23,6 @@ impl Model for Classes {
     ghost Value = { List ℕ };
 
     ghost view = { λ classes. classes.names.items };
-}
-
-/// The least state that accepts just where `q` does.
-fn first_at(dfa: &Dfa, q: u8) -> u8
-    requires { q < dfa.now.states }
-    ensures { result ≡ least (λ r. same_end (automaton_of dfa.now) r q) dfa.now.states }
-{
-    for r in 0..q {
-        if dfa.accepting(r) == dfa.accepting(q) {
-            return r;
-        }
-    }
-    q
 }
 
 impl Classes {
@@ -71,54 +59,59 @@ impl Classes {
         }
         true
     }
+}
 
-    /// The least state of the class of `q` after one more round.
-    fn refined_at(&self, dfa: &Dfa, q: u8) -> u8
-        requires classes { length self.now ≡ dfa.now.states }
-        requires state { q < dfa.now.states }
-        ensures { result ≡ least (λ r. same_next (automaton_of dfa.now) self.now r q) dfa.now.states }
-    {
-        for r in 0..q {
-            if self.is_same_next(dfa, r, q) {
-                return r;
-            }
-        }
-        q
-    }
-
-    /// Two classes: of the states that accept, and of those that don't.
-    fn first(alloc: Global, dfa: &Dfa) -> Result<Classes, OutOfMemory>
-        ensures { IfOk result (λ classes. classes ≡ rounds (automaton_of dfa.now) 0) }
-    {
-        let mut names = Vec::new(alloc);
-        for q in 0..dfa.states() as u8 {
-            names.push(first_at(dfa, q))?;
-        }
-        Ok(Classes { names })
-    }
-
-    /// The classes after one more round.
-    fn refined(&self, alloc: Global, dfa: &Dfa) -> Result<Classes, OutOfMemory>
-        requires { length self.now ≡ dfa.now.states }
-        ensures { IfOk result (λ classes. classes ≡ refine (automaton_of dfa.now) self.now) }
-    {
-        let mut names = Vec::new(alloc);
-        for q in 0..dfa.states() as u8 {
-            names.push(self.refined_at(dfa, q))?;
-        }
-        Ok(Classes { names })
+/// Whether two states are in one class of the next round: of the first, where both accept or neither
+/// does, and of one after given classes, where they are in one class and each letter leads them into
+/// one.
+fn is_same_after(dfa: &Dfa, before: Option<&Classes>, q: u8, r: u8) -> bool
+    requires classes { ForSome (option_copied before) (λ classes. length classes ≡ dfa.now.states) }
+    requires first { q < dfa.now.states }
+    requires second { r < dfa.now.states }
+    ensures { result ≡ same_after (automaton_of dfa.now) (option_copied before.entry) q r }
+{
+    match before {
+        None => dfa.accepting(q) == dfa.accepting(r),
+        Some(classes) => classes.is_same_next(dfa, q, r),
     }
 }
 
-/// The classes of each round, up to the first that the next one doesn't change. No two states fail a
-/// comparison of targets twice, so all rounds take `n * n * m` steps for `n` states and `m` letters.
+/// The least state of the class of `q` in the next round.
+fn least_after(dfa: &Dfa, before: Option<&Classes>, q: u8) -> u8
+    requires classes { ForSome (option_copied before) (λ classes. length classes ≡ dfa.now.states) }
+    requires state { q < dfa.now.states }
+    ensures { result ≡
+        least (λ r. same_after (automaton_of dfa.now) (option_copied before.entry) r q) dfa.now.states }
+{
+    for r in 0..q {
+        if is_same_after(dfa, before, r, q) {
+            return r;
+        }
+    }
+    q
+}
+
+/// The classes of the next round: of the first, or of one after given classes.
+fn classes_after(alloc: Global, dfa: &Dfa, before: Option<&Classes>) -> Result<Classes, OutOfMemory>
+    requires { ForSome (option_copied before) (λ classes. length classes ≡ dfa.now.states) }
+    ensures { IfOk result (λ classes.
+        classes ≡ classes_after (automaton_of dfa.now) (option_copied before.entry)) }
+{
+    let mut names = Vec::new(alloc);
+    for q in 0..dfa.states() as u8 {
+        names.push(least_after(dfa, before, q))?;
+    }
+    Ok(Classes { names })
+}
+
+/// The classes of each round, up to the first that the next one doesn't change.
 pub(crate) fn rounds_of(alloc: Global, dfa: &Dfa) -> Result<Vec<Classes>, OutOfMemory>
     ensures { IfOk result (λ rows. AreRoundsOf dfa.now rows.items) }
 {
     let mut rows = Vec::with_capacity(alloc, dfa.states())?;
-    let mut classes = Classes::first(alloc, dfa)?;
+    let mut classes = classes_after(alloc, dfa, None)?;
     loop {
-        let next = classes.refined(alloc, dfa)?;
+        let next = classes_after(alloc, dfa, Some(&classes))?;
         let is_stable = next.is_same(&classes);
         rows.push(classes)?;
         if is_stable {

@@ -1,8 +1,8 @@
 //! Finding the states that words reach, breadth first, so that each is found by its access word.
 
 ghost use Rattle.std.specs.Prelude.{◌≡◌, ◌≢◌, ◌<◌, ◌+◌, ◌++◌, ◌∷◌, [], ℕ, IfOk, OnOk, MatchOption, length, slice_index};
-ghost use Rattle.za_min.specs.Rounds.{AreClassesOf};
-ghost use Rattle.za_min.specs.Exploring.{merged_of, state_of, AreStatesOf, AreFoundStates, AreAllFound};
+ghost use Rattle.za_min.specs.Private.Rounds.{AreClassesOf};
+ghost use Rattle.za_min.specs.Private.Exploring.{merged_of, state_of, AreStatesOf, AreFoundStates, AreAllFound};
 ghost use Rattle.za_min.specs.Minimal.{word_at};
 
 use crate::classes::Classes;
@@ -36,7 +36,8 @@ impl Found {
     /// The class of the start, which the empty word leads to.
     fn start(alloc: Global, dfa: &Dfa, classes: &Classes) -> Result<Found, OutOfMemory>
         requires { AreClassesOf dfa.now classes.now }
-        ensures { IfOk result (λ found. AreFoundStates (merged_of dfa.now classes.now) 0 0 found.words.items found.states.items) }
+        ensures { IfOk result (λ found.
+            AreFoundStates (merged_of dfa.now classes.now) 0 0 found.words.items found.states.items) }
     {
         let mut words = Vec::new(alloc);
         words.push(Word::new(alloc))?;
@@ -51,7 +52,8 @@ impl Found {
         requires place { at < length self.now.words.items }
         requires letter { a.0 < length dfa.now.alphabet.letters }
         requires states { AreStatesOf (merged_of dfa.now classes.now) self.now.words.items self.now.states.items }
-        ensures { result ≡ (merged_of dfa.now classes.now).step (state_of (merged_of dfa.now classes.now) (word_at self.now.words.items at)) a.0 }
+        ensures { let merged = merged_of dfa.now classes.now in
+            result ≡ merged.step (state_of merged (word_at self.now.words.items at)) a.0 }
     {
         classes.of(dfa.step(self.states[at], a))
     }
@@ -59,7 +61,8 @@ impl Found {
     /// Adds the state that the word of a place leads to with one letter more.
     fn add(&mut self, at: usize, a: Letter, next: u8) -> Result<(), OutOfMemory>
         requires { at < length self.old.words.items }
-        ensures words { OnOk result (self.new.words.items ≡ self.old.words.items ++ (word_at self.old.words.items at ++ a.0 ∷ []) ∷ []) }
+        ensures words { OnOk result (self.new.words.items ≡
+            self.old.words.items ++ (word_at self.old.words.items at ++ a.0 ∷ []) ∷ []) }
         ensures states { OnOk result (self.new.states.items ≡ self.old.states.items ++ next ∷ []) }
     {
         let mut word = self.words[at].copy()?;
@@ -80,9 +83,11 @@ impl Found {
         requires classes { AreClassesOf dfa.now classes.now }
         requires place { at < length self.old.words.items }
         requires letter { a.0 < length dfa.now.alphabet.letters }
-        requires found { AreFoundStates (merged_of dfa.now classes.now) at a.0 self.old.words.items self.old.states.items }
+        requires found { AreFoundStates (merged_of dfa.now classes.now) at a.0
+            self.old.words.items self.old.states.items }
         ensures place { OnOk result (at < length self.new.words.items) }
-        ensures found { OnOk result (AreFoundStates (merged_of dfa.now classes.now) at (a.0 + 1) self.new.words.items self.new.states.items) }
+        ensures found { OnOk result (AreFoundStates (merged_of dfa.now classes.now) at (a.0 + 1)
+            self.new.words.items self.new.states.items) }
     {
         let next = self.next(dfa, classes, at, a);
         match place_of(&self.states, next) {
@@ -98,9 +103,11 @@ impl Found {
     fn visit_all(&mut self, dfa: &Dfa, classes: &Classes, at: usize) -> Result<(), OutOfMemory>
         requires classes { AreClassesOf dfa.now classes.now }
         requires place { at < length self.old.words.items }
-        requires found { AreFoundStates (merged_of dfa.now classes.now) at 0 self.old.words.items self.old.states.items }
+        requires found { AreFoundStates (merged_of dfa.now classes.now) at 0
+            self.old.words.items self.old.states.items }
         ensures place { OnOk result (at < length self.new.words.items) }
-        ensures found { OnOk result (AreFoundStates (merged_of dfa.now classes.now) (at + 1) 0 self.new.words.items self.new.states.items) }
+        ensures found { OnOk result (AreFoundStates (merged_of dfa.now classes.now) (at + 1) 0
+            self.new.words.items self.new.states.items) }
     {
         for a in 0..dfa.alphabet().letters() as u8 {
             self.visit(dfa, classes, at, Letter(a))?;
@@ -109,8 +116,7 @@ impl Found {
     }
 }
 
-/// The classes that words reach, in shortlex order of their access words. For `n` of them and `m`
-/// letters it takes `n * n * m` steps at most.
+/// The classes that words reach, in shortlex order of their access words.
 pub(crate) fn explore(alloc: Global, dfa: &Dfa, classes: &Classes) -> Result<Found, OutOfMemory>
     requires { AreClassesOf dfa.now classes.now }
     ensures { IfOk result (λ found. AreAllFound (merged_of dfa.now classes.now) found.words.items found.states.items) }

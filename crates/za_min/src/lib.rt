@@ -9,8 +9,5 @@ mod laws;
 mod minimal;
 mod table;
 
-pub use laws::minimal_dfas_are_one;
+pub use laws::{minimal_dfas_are_one, minimal_dfas_exist};
 pub use minimal::{Minimal, minimise};
-
-#[cfg(test)]
-mod tests;

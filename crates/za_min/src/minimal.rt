@@ -1,9 +1,10 @@
 ghost use Rattle.std.specs.Prelude.{◌≡◌, ◌≢◌, ◌<◌, ◌≤◌, ℕ, IfOk, MatchOption, length};
 ghost use Rattle.za_alpha.specs.Letters.{numbers};
 ghost use Rattle.za_dfa.specs.Tables.{automaton_of, IsComplete};
-ghost use Rattle.za_min.specs.Minimal.{HaveSameLanguage, IsMinimal, IsNumberedBy, IsMinimalDfa, IsLeastApart, word_at};
+ghost use Rattle.za_min.specs.Minimal.{IsMinimalOf, IsMinimalDfa, IsLeastApart, word_at};
+ghost use Rattle.za_min.specs.Private.Rounds.{AreClassesOf};
 
-use crate::apart::{round_of_split, split_word};
+use crate::apart::word_apart;
 use crate::classes::{Classes, rounds_of};
 use crate::explore::{Found, explore};
 use crate::table::table_of;
@@ -19,7 +20,6 @@ use za_dfa::Dfa;
 pub struct Minimal {
     dfa: Dfa,
     access: Vec<Word>,
-    rounds: Vec<Classes>,
 }
 
 impl Model for Minimal {
@@ -33,27 +33,29 @@ impl Model for Minimal {
     ghost invariant = { IsMinimalInside };
 }
 
-/// The minimal complete DFA of the part of a DFA that words reach, which accepts the same words. For
-/// `n` states and `m` letters it takes about `n * n * m` steps and `n * n + n * m` bytes.
-/// `OutOfMemory` comes only where memory is refused.
-pub fn minimise(alloc: Global, dfa: &Dfa) -> Result<Minimal, OutOfMemory>
-    ensures alphabet { IfOk result (λ minimal. minimal.dfa.alphabet ≡ dfa.now.alphabet) }
-    ensures language { IfOk result (λ minimal. HaveSameLanguage (automaton_of minimal.dfa) (automaton_of dfa.now)) }
-    ensures minimal { IfOk result (λ minimal. IsMinimal (automaton_of minimal.dfa)) }
-    ensures numbered { IfOk result (λ minimal. IsNumberedBy (automaton_of minimal.dfa) minimal.access) }
+/// The DFA whose states are merged to these classes.
+fn merged(alloc: Global, dfa: &Dfa, classes: &Classes) -> Result<Minimal, OutOfMemory>
+    requires { AreClassesOf dfa.now classes.now }
+    ensures minimal { IfOk result (λ minimal. IsMinimalOf minimal.dfa dfa.now) }
     ensures no_larger { IfOk result (λ minimal. minimal.dfa.states ≤ dfa.now.states) }
 {
-    let rounds = rounds_of(alloc, dfa)?;
-    let classes = &rounds[rounds.len() - 1];
     let found = explore(alloc, dfa, classes)?;
     let table = table_of(alloc, dfa, classes, &found)?;
-    let rounds = rounds_of(alloc, &table)?;
     let Found { words, states: _ } = found;
     Ok(Minimal {
         dfa: table,
         access: words,
-        rounds,
     })
+}
+
+/// The minimal complete DFA of the part of a DFA that words reach, which accepts the same words. Want
+/// of memory is the one free answer.
+pub fn minimise(alloc: Global, dfa: &Dfa) -> Result<Minimal, OutOfMemory>
+    ensures minimal { IfOk result (λ minimal. IsMinimalOf minimal.dfa dfa.now) }
+    ensures no_larger { IfOk result (λ minimal. minimal.dfa.states ≤ dfa.now.states) }
+{
+    let rounds = rounds_of(alloc, dfa)?;
+    merged(alloc, dfa, &rounds[rounds.len() - 1])
 }
 
 impl Minimal {
@@ -70,11 +72,7 @@ impl Minimal {
     pub fn into_dfa(self) -> Dfa
         ensures { result ≡ self.dfa }
     {
-        let Minimal {
-            dfa,
-            access: _,
-            rounds: _,
-        } = self;
+        let Minimal { dfa, access: _ } = self;
         dfa
     }
 
@@ -87,8 +85,7 @@ impl Minimal {
     }
 
     /// The shortlex-least word that tells states `q` and `r` apart: that is accepted from exactly one of
-    /// them. `None` comes exactly where they are one state. `OutOfMemory` comes only where memory is
-    /// refused.
+    /// them. `None` comes exactly where they are one state. Want of memory is the one free answer.
     pub fn apart(&self, q: u8, r: u8) -> Result<Option<Word>, OutOfMemory>
         requires first { q < self.now.dfa.states }
         requires second { r < self.now.dfa.states }
@@ -96,13 +93,8 @@ impl Minimal {
             (q ≡ r)
             (λ w. (q ≢ r) × IsLeastApart (automaton_of self.now.dfa) q r w)) }
     {
-        match round_of_split(&self.dfa, &self.rounds, q, r) {
-            None => Ok(None),
-            Some(round) => {
-                let alloc = *self.access.allocator();
-                let word = split_word(alloc, &self.dfa, &self.rounds, round, q, r)?;
-                Ok(Some(word))
-            }
-        }
+        let alloc = *self.access.allocator();
+        let rounds = rounds_of(alloc, &self.dfa)?;
+        word_apart(alloc, &self.dfa, &rounds, q, r)
     }
 }

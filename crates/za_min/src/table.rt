@@ -1,9 +1,10 @@
 //! The table of the states that were found, numbered by their places.
 
-ghost use Rattle.std.specs.Prelude.{◌≡◌, ◌<◌, ◌*◌, ℕ, All, IfOk, length, map};
+ghost use Rattle.std.specs.Prelude.{◌≡◌, ◌<◌, ◌≤◌, ◌*◌, All, IfOk, length, map};
 ghost use Rattle.za_dfa.specs.Tables.{automaton_of, accepts_at};
-ghost use Rattle.za_min.specs.Rounds.{AreClassesOf};
-ghost use Rattle.za_min.specs.Exploring.{merged_of, AreAllFound, IsTarget, AreTargets, Renumbers};
+ghost use Rattle.za_min.specs.Minimal.{IsMinimalOf, IsNumberedBy};
+ghost use Rattle.za_min.specs.Private.Rounds.{AreClassesOf};
+ghost use Rattle.za_min.specs.Private.Exploring.{merged_of, AreAllFound, IsTarget, AreTargets};
 
 use crate::classes::Classes;
 use crate::explore::{Found, place_of};
@@ -33,7 +34,8 @@ fn targets_of(
     requires classes { AreClassesOf dfa.now classes.now }
     requires found { AreAllFound (merged_of dfa.now classes.now) found.now.words.items found.now.states.items }
     ensures { IfOk result (λ targets.
-        AreTargets (merged_of dfa.now classes.now) found.now.words.items (length found.now.words.items * length dfa.now.alphabet.letters) targets.items) }
+        AreTargets (merged_of dfa.now classes.now) found.now.words.items
+        (length found.now.words.items * length dfa.now.alphabet.letters) targets.items) }
 {
     let letters = dfa.alphabet().letters();
     let mut targets = Vec::new(alloc);
@@ -65,8 +67,9 @@ pub(crate) fn table_of(
 ) -> Result<Dfa, OutOfMemory>
     requires classes { AreClassesOf dfa.now classes.now }
     requires found { AreAllFound (merged_of dfa.now classes.now) found.now.words.items found.now.states.items }
-    ensures alphabet { IfOk result (λ table. table.alphabet ≡ dfa.now.alphabet) }
-    ensures renumbered { IfOk result (λ table. Renumbers (merged_of dfa.now classes.now) found.now.words.items (automaton_of table)) }
+    ensures minimal { IfOk result (λ table. IsMinimalOf table dfa.now) }
+    ensures numbered { IfOk result (λ table. IsNumberedBy (automaton_of table) found.now.words.items) }
+    ensures no_larger { IfOk result (λ table. table.states ≤ dfa.now.states) }
 {
     let targets = targets_of(alloc, dfa, classes, found)?;
     let accepting = accepting_of(alloc, dfa, &found.states)?;

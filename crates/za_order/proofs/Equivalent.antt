@@ -2,7 +2,8 @@
 use Rattle.std.proofs.Common.{◌≡◌, ℕ, zero, suc, ◌<◌, ◌≤◌, true, inl, inr, List, [], ◌∷◌, length, slice_index, Option, Some, None, refl, sym, ap, subst, ◌∙◌, arith}
 use Rattle.std.proofs.lemmas.Bool.{cases_eq, cases_order}
 use Rattle.std.proofs.Math.Path.{fun_ext}
-use Rattle.za_alpha.specs.Words.{has, least, AreEquivalent}
+use Rattle.za_alpha.specs.Words.{has, AreEquivalent}
+use Rattle.za_alpha.specs.Search.{least}
 use Rattle.za_order.specs.Views.{participants, in_view}
 use Rattle.za_order.specs.Entries.{primary, secondary, tertiary, IsTertiary}
 use Rattle.za_order.specs.Words.{IsMatch, AreMatched}

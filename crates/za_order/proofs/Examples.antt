@@ -4,7 +4,7 @@ use Rattle.std.specs.List.{range_with_len}
 use Rattle.za_order.specs.Views.{participants, in_view, in_past}
 use Rattle.za_order.specs.Entries.{primary}
 use Rattle.za_order.specs.Labels.{labels}
-use Rattle.za_order.specs.Locals.{ids, listed, earlier, best, under, residue_word}
+use Rattle.za_order.specs.Locals.{ids, earlier, best, under, residue_word}
 
 -- the letters a of process 0, b of process 1, and c of both
 abbrev loc_two : ℕ → List ℕ
@@ -104,7 +104,3 @@ residue_without_c = refl
 -- the numbers f.0, c.0, f.0, d.0
 numbers_of_zero : map ((ids loc_four 4 word_four 4 0).primary) (range_with_len 0 4) ≡ 196 ∷ 1 ∷ 196 ∷ 66 ∷ []
 numbers_of_zero = refl
-
--- c.0, c.0, and the secondary and tertiary entries of process 1 after a b c a
-numbers_two : listed 2 (ids loc_two 2 word_two 4 1) ≡ 19 ∷ 19 ∷ 19 ∷ 19 ∷ 19 ∷ 19 ∷ 19 ∷ 19 ∷ 19 ∷ 19 ∷ 19 ∷ 19 ∷ 19 ∷ 19 ∷ []
-numbers_two = refl

@@ -1,7 +1,7 @@
 -- The greatest number that passes a test.
 use Rattle.std.proofs.Common.{◌≡◌, ℕ, zero, suc, ◌<◌, ◌≤◌, Bool, true, inl, inr, Some, refl, sym, ap, arith}
 use Rattle.std.proofs.lemmas.Bool.{cond_both, cases_eq, cond-true, cond-false, cases_Bool}
-use Rattle.za_order.specs.Entries.{greatest}
+use Rattle.za_alpha.specs.Search.{greatest}
 
 -- e is the greatest number below n that passes
 pub record IsGreatest (test : ℕ → Bool) (n e : ℕ) : Type 0 where

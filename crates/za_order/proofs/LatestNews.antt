@@ -2,7 +2,8 @@
 use Rattle.std.proofs.Common.{◌≡◌, ℕ, ◌<◌, ◌≤◌, Bool, true, false, ◌&&◌, ◌⊎◌, inl, inr, List, [], ◌∷◌, Option, Some, None, refl, sym, subst, ◌∙◌, arith}
 use Rattle.std.specs.Option.{option_map_or}
 use Rattle.std.proofs.lemmas.Bool.{cases_Bool, cases_lt, and_parts, and_from}
-use Rattle.za_alpha.specs.Words.{has, least}
+use Rattle.za_alpha.specs.Words.{has}
+use Rattle.za_alpha.specs.Search.{least}
 use Rattle.za_order.specs.Views.{in_view}
 use Rattle.za_order.specs.Entries.{primary}
 use Rattle.za_order.specs.Locals.{knows_latest, best}

@@ -25,3 +25,4 @@ pub mod Rising
 pub mod Processes
 pub mod NextLetter
 pub mod Ranges
+pub mod Parts

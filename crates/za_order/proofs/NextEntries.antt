@@ -9,7 +9,8 @@ use Rattle.za_order.proofs.Views.{view-sound, view-complete, past-sound, past-co
 use Rattle.za_order.proofs.Entries.{primary-sound, primary-some}
 use Rattle.za_order.proofs.Steps.{view-came, primary_of_participant, primary_joined, primary_kept}
 use Rattle.za_order.proofs.Prefixes.{greatest-same}
-use Rattle.za_order.proofs.LatestNews.{IsNewest}
+use Rattle.za_order.specs.Laws.{SecondaryOfParticipant, TertiaryOfParticipant, SecondaryJoined, TertiaryJoined, SecondaryKept, TertiaryKept}
+use Rattle.za_order.proofs.LatestNews.{IsNewest, knows-from}
 
 module _ (who : ℕ → List ℕ) (n p : ℕ) where
   -- for a process q that takes no part, what the newest had
@@ -61,3 +62,22 @@ module _ (who : ℕ → List ℕ) (n p : ℕ) where
 
   pub tertiary-kept : (q r s : ℕ) → has (who n) p ≡ false → tertiary who (suc n) p q r s ≡ tertiary who n p q r s
   tertiary-kept q r s out = ap (λ o. option_and_then (λ e. last_in_past who e s) o) (secondary-kept q r out)
+
+-- in the words of the laws
+pub secondary_of_participant : SecondaryOfParticipant
+secondary_of_participant who n p q r a b = secondary-own who n p q r a b
+
+pub tertiary_of_participant : TertiaryOfParticipant
+tertiary_of_participant who n p q r s a b = tertiary-own who n p q r s a b
+
+pub secondary_joined : SecondaryJoined
+secondary_joined who n p q b r a other h k = secondary-newest who n p q r b a other (knows-from who n (who n) q b h k)
+
+pub tertiary_joined : TertiaryJoined
+tertiary_joined who n p q b r s a other h k = tertiary-newest who n p q r s b a other (knows-from who n (who n) q b h k)
+
+pub secondary_kept : SecondaryKept
+secondary_kept who n p q r out = secondary-kept who n p q r out
+
+pub tertiary_kept : TertiaryKept
+tertiary_kept who n p q r s out = tertiary-kept who n p q r s out

@@ -1,9 +1,11 @@
 -- Words that agree at the first places have the same views, entries and labels there.
 use Rattle.std.proofs.Common.{◌≡◌, ℕ, zero, suc, ◌<◌, ◌≤◌, Bool, ◌&&◌, inl, inr, List, [], ◌∷◌, ◌++◌, length, slice_index, Option, Some, None, option_and_then, refl, sym, ap, subst, ◌∙◌, arith}
 use Rattle.std.proofs.lemmas.Bool.{cases_order}
-use Rattle.za_alpha.specs.Words.{has, least}
+use Rattle.za_alpha.specs.Words.{has}
+use Rattle.za_alpha.specs.Search.{least}
 use Rattle.za_order.specs.Views.{participants, in_view, in_past}
-use Rattle.za_order.specs.Entries.{greatest, primary, last_in_past, secondary, tertiary, IsTertiary}
+use Rattle.za_order.specs.Entries.{primary, last_in_past, secondary, tertiary, IsTertiary}
+use Rattle.za_alpha.specs.Search.{greatest}
 use Rattle.za_order.specs.Labels.{least_participant, label}
 use Rattle.za_order.proofs.Participants.{IsOver}
 use Rattle.za_order.proofs.Entries.{primary-sound, primary-below, secondary-sound, secondary-below, tertiary-sound, tertiary-below}

@@ -1,13 +1,9 @@
 -- The latest events that processes know of each other: primary, secondary and tertiary information (Mukund and
 -- Sohoni 1997).
-use Rattle.std.specs.Prelude.{◌≡◌, ℕ, zero, suc, Bool, ◌&&◌, List, [], ◌∷◌, if◌then◌else◌, Option, Some, None, option_and_then}
+use Rattle.std.specs.Prelude.{◌≡◌, ℕ, suc, ◌&&◌, [], ◌∷◌, List, Option, Some, option_and_then}
 use Rattle.za_alpha.specs.Words.{has}
+use Rattle.za_alpha.specs.Search.{greatest}
 use Rattle.za_order.specs.Views.{in_view, in_past}
-
--- the greatest number below n that passes the test, and none where none does
-abbrev pub greatest : (ℕ → Bool) → ℕ → Option ℕ
-greatest test zero = None
-greatest test (suc n) = if test n then Some n else greatest test n
 
 -- the primary entry of p for q: the latest event of q in the view of p after the first n events
 abbrev pub primary : (ℕ → List ℕ) → ℕ → ℕ → ℕ → Option ℕ

@@ -1,6 +1,7 @@
 -- What the processes know of the events of a word: views (Mukund and Sohoni 1997; Mukund 2012). `who i` are the
 -- processes of the event at position i, and the first n events have happened.
-use Rattle.std.specs.Prelude.{◌≡◌, ℕ, zero, suc, ◌<◌, Bool, false, ◌||◌, List, [], ◌∷◌, ◌++◌, if◌then◌else◌, ◌==◌, IsTrue, slice_index}
+use Rattle.std.specs.Prelude.{◌≡◌, ℕ, zero, suc, ◌<◌, Bool, false, ◌||◌, List, [], ◌∷◌, ◌++◌, if◌then◌else◌, ◌==◌}
+use Rattle.std.specs.Prelude.{IsTrue, slice_index}
 use Rattle.za_alpha.specs.Words.{has, meets}
 
 -- the participants of the event at position i of the word: the processes of its letter
@@ -22,10 +23,12 @@ in_past who e i = in_view who (suc e) (who e) i
 -- a chain of events leads from i up to k, in which neighbours share a process
 pub data Chain (who : ℕ → List ℕ) : ℕ → ℕ → Type 0 where
   Here : {i : ℕ} → Chain who i i
-  Then : {i j k : ℕ} (p : ℕ) → Chain who i j → j < k → IsTrue (has (who j) p) → IsTrue (has (who k) p) → Chain who i k
+  Then :
+      {i j k : ℕ} (p : ℕ) → Chain who i j → j < k → IsTrue (has (who j) p) → IsTrue (has (who k) p) → Chain who i k
 
 -- f is in the views of p and of q, and is in the past of no other event that is in both
 pub record IsMaximalInBoth (who : ℕ → List ℕ) (n p q f : ℕ) : Type 0 where
   pub in_one : IsTrue (in_view who n (p ∷ []) f)
   pub in_other : IsTrue (in_view who n (q ∷ []) f)
-  pub maximal : (g : ℕ) → IsTrue (in_view who n (p ∷ []) g) → IsTrue (in_view who n (q ∷ []) g) → IsTrue (in_past who g f) → g ≡ f
+  pub maximal :
+      (g : ℕ) → IsTrue (in_view who n (p ∷ []) g) → IsTrue (in_view who n (q ∷ []) g) → IsTrue (in_past who g f) → g ≡ f

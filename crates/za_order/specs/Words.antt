@@ -1,5 +1,6 @@
 -- Parts of a word, and the events of two words that stand for each other, as in traces (Zielonka 1987).
-use Rattle.std.specs.Prelude.{◌≡◌, ℕ, zero, suc, ◌<◌, Bool, List, [], ◌∷◌, ◌++◌, if◌then◌else◌, IsTrue, slice_index, length, count_by, take, ◌==◌, Option, Some, None}
+use Rattle.std.specs.Prelude.{◌≡◌, ℕ, zero, suc, ◌<◌, Bool, List, [], ◌∷◌, ◌++◌, if◌then◌else◌, IsTrue, ◌==◌}
+use Rattle.std.specs.Prelude.{slice_index, length, count_by, take, Option, Some, None}
 use Rattle.za_order.specs.Views.{Chain}
 
 -- the subword at those of the first n positions that pass the test

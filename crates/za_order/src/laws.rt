@@ -1,9 +1,12 @@
 //! Laws over the definitions alone.
 
-ghost use Rattle.za_order.specs.Laws.{PastIsChains, ParticipantsAgree, SharedMaximalIsPrimary, NewerBySecondary, TertiaryCovers};
-ghost use Rattle.za_order.specs.Laws.{PrimaryOfParticipant, PrimaryJoined, PrimaryKept, SubwordsSplit};
+ghost use Rattle.za_order.specs.Laws.{PastIsChains, ParticipantsAgree, SharedMaximalIsPrimary, NewerBySecondary};
+ghost use Rattle.za_order.specs.Laws.{TertiaryCovers, PrimaryOfParticipant, SecondaryOfParticipant};
+ghost use Rattle.za_order.specs.Laws.{TertiaryOfParticipant, PrimaryJoined, SecondaryJoined, TertiaryJoined};
+ghost use Rattle.za_order.specs.Laws.{PrimaryKept, SecondaryKept, TertiaryKept, SubwordsSplit};
 ghost use Rattle.za_order.specs.Laws.{LabelIsFree, LabelIsLeast, LabelsAreBounded, NumbersAreBounded, NumbersTellApart};
-ghost use Rattle.za_order.specs.Laws.{EventsMatch, ViewsAgree, PrimaryEntriesAgree, SecondaryEntriesAgree, TertiaryEntriesAgree, LabelsAgree, IdsAgree};
+ghost use Rattle.za_order.specs.Laws.{EventsMatch, ViewsAgree, PrimaryEntriesAgree, SecondaryEntriesAgree};
+ghost use Rattle.za_order.specs.Laws.{TertiaryEntriesAgree, LabelsAgree, IdsAgree};
 
 /// The past of an event of a word has exactly the events from which a chain leads to it, in which
 /// neighbours share a process. After an event all its participants have the same view.
@@ -32,13 +35,20 @@ pub fn tertiary_covers()
     ensures { TertiaryCovers }
 {}
 
-/// What an event changes: its participants have it as their primary entry for each participant,
-/// and for any other process the latest entry that one of them had. Who takes no part keeps all.
-#[tactic(auto, using(crate::proofs::Steps::primary_of_participant, crate::proofs::Steps::primary_joined, crate::proofs::Steps::primary_kept))]
+/// What an event changes. Its participants have it as their primary entry for each participant, and
+/// their secondary and tertiary entries for a participant are their primary and secondary ones. For
+/// any other process they have the latest primary entry that one of them had, with the secondary and
+/// tertiary entries of a participant that knows it. Who takes no part keeps its entries.
 pub fn entries_after_an_event()
     ensures of_participants { PrimaryOfParticipant }
+    ensures second_of_participants { SecondaryOfParticipant }
+    ensures third_of_participants { TertiaryOfParticipant }
     ensures joined { PrimaryJoined }
+    ensures second_joined { SecondaryJoined }
+    ensures third_joined { TertiaryJoined }
     ensures kept { PrimaryKept }
+    ensures second_kept { SecondaryKept }
+    ensures third_kept { TertiaryKept }
 {}
 
 /// A down-closed part of a set of positions comes first in the subword at the set, up to
@@ -50,7 +60,6 @@ pub fn subwords_split()
 
 /// The label of an event is the least that the label rule leaves free, and at most the cube of the
 /// number of processes.
-#[tactic(auto, using(crate::proofs::Labels::label_is_free, crate::proofs::Labels::label_is_least, crate::proofs::Labels::labels_are_bounded))]
 pub fn label_is_least_free()
     ensures free { LabelIsFree }
     ensures least { LabelIsLeast }

@@ -7,7 +7,7 @@ use Rattle.std.proofs.lemmas.Bool.{and_parts}
 use Rattle.std.proofs.lemmas.Bool.Decides.{nat_tests}
 use Rattle.std.proofs.lemmas.List.Sums.{fold-append}
 use Rattle.std.proofs.lemmas.Fmt.{decimal_by_steps, length-decimal-le, decimal_nonempty, first_decimal, decimal_digit}
-use Rattle.za_text.specs.Numbers.{is_digit, is_numeral, value_of, number_of}
+use Rattle.za_text.specs.Numbers.{is_digit, is_numeral, value_of, numeral_value}
 use Rattle.za_print.proofs.PrintedLines.{CanPrint, is_inner}
 
 value_step : (n : ℕ) (ds : List ℕ) → 10 ≤ n → value_of ds ≡ n / 10 → value_of (ds ++ ((48 + n % 10) ∷ [])) ≡ n
@@ -49,8 +49,8 @@ numeral-decimal (suc n) h =
     let fits : suc n < 2 ^ 64 = omega arith in
     numeral (decimal (suc n)) (decimal_nonempty (suc n) fits) (length-decimal-le 10 (suc n) (lit< tt) (omega arith) fits) (digits-decimal (suc n) fits) (inl (first_decimal (suc n) (omega arith) fits))
 
-pub number_of-decimal : (n : ℕ) → n < 2 ^ 32 → number_of (decimal n) ≡ Some n
-number_of-decimal n h =
+pub numeral_value-decimal : (n : ℕ) → n < 2 ^ 32 → numeral_value (decimal n) ≡ Some n
+numeral_value-decimal n h =
     let fits : n < 2 ^ 64 = omega arith in
     let most : n ≤ 4294967295 = omega arith in
     let v = value-decimal n fits in
@@ -58,9 +58,9 @@ number_of-decimal n h =
     let f : nat_le n 4294967295 ≡ true = grind (arith, nat_tests) in
     rw (m, v, f)
 
-pub numbers-decimal : (ns : List ℕ) → AllByRecursion (λ n. n < 2 ^ 32) ns → filter_map number_of (map decimal ns) ≡ ns
+pub numbers-decimal : (ns : List ℕ) → AllByRecursion (λ n. n < 2 ^ 32) ns → filter_map numeral_value (map decimal ns) ≡ ns
 numbers-decimal [] h = refl
-numbers-decimal (n ∷ ns) h = let e = number_of-decimal n h.0 in rw e (ap (λ ms. n ∷ ms) (numbers-decimal ns h.1))
+numbers-decimal (n ∷ ns) h = let e = numeral_value-decimal n h.0 in rw e (ap (λ ms. n ∷ ms) (numbers-decimal ns h.1))
 
 digit_inner : (b : ℕ) → is_digit b ≡ true → is_inner b ≡ true
 digit_inner b h = grind (arith, nat_tests)

@@ -1,7 +1,7 @@
 -- What holds of a job's letters, rows, scripts and accepting states.
 use Rattle.std.proofs.Common.{◌≡◌, ◌≢◌, ◌∙◌, ap, sym, subst, ℕ, ◌+◌, ◌*◌, ◌/◌, ◌%◌, ◌<◌, ◌≤◌, ◌^◌, zero, suc, Bool, true, false, ◌&&◌, ◌||◌, List, [], ◌∷◌, ◌++◌, length, refl, append_assoc, length-append, arith, Option, Some, None, inl, inr, eqb-true, eq-eqb, true≢false}
 use Rattle.std.specs.Prelude.{◌==◌, nat_lt, slice_index_or}
-use Rattle.std.specs.List.{All, list_any, filter_map, range_with_len, position_from, cons_option, AllByRecursion}
+use Rattle.std.specs.List.{All, filter_map, range_with_len, position_from, cons_option, AllByRecursion}
 use Rattle.std.specs.Str.{bytes_eq}
 use Rattle.std.proofs.lemmas.Bool.{cases_Bool, cases_eq, and_parts, or_left}
 use Rattle.std.proofs.lemmas.Bool.Decides.{nat_tests}
@@ -16,13 +16,14 @@ use Rattle.za_alpha.specs.Alphabet.{NamedLetter, DistributedAlphabet, IsDistribu
 use Rattle.za_alpha.proofs.RoundTrip.{set_of-members}
 use Rattle.za_alpha.proofs.Members.{has-filter, has-range-below}
 use Rattle.za_dfa.specs.declared.rows.Row.{Row}
-use Rattle.za_dfa.specs.Rows.{is_at, has_other, target_in}
+use Rattle.za_dfa.specs.Rows.{is_at, has_other, target_in, cells_of}
 use Rattle.za_dfa.proofs.GridLemmas.{row_of_cell}
-use Rattle.za_lang.specs.Tests.{has_name}
-use Rattle.za_lang.specs.Documents.{accepting_of, targets_of_rows}
-use Rattle.za_lang.specs.Langs as langs
-use Rattle.za_lang.specs.Langs.{PartialDfa, IsPartial, is_accepting, rows_of, target_of}
-use Rattle.za_print.specs.Printed.{accepting_states}
+use Rattle.za_alpha.specs.NewNames.{is_taken}
+use Rattle.za_lang.specs.Documents.{acceptance_of}
+use Rattle.za_dfa.specs.Partials.{PartialDfa, IsPartial, is_accepting, target_of}
+use Rattle.za_lang.specs.Limits.{most_letters}
+use Rattle.za_print.specs.Printed as printed
+use Rattle.za_print.specs.Printed.{accepting_states, table_rows}
 use Rattle.za_print.proofs.Runs.{AreLetters, Finds, AreRows}
 
 -- what holds at each place holds one by one
@@ -71,7 +72,7 @@ name_before [] ls b h = absurd (omega arith)
 name_before (f ∷ front) ls zero h = refl
 name_before (f ∷ front) ls (suc b) h = name_before front ls b (omega arith)
 
-fresh_name : (name : List ℕ) (front : List NamedLetter) → ((b : ℕ) → b < length front → name_at front b ≢ name) → list_any (has_name name) front ≡ false
+fresh_name : (name : List ℕ) (front : List NamedLetter) → ((b : ℕ) → b < length front → name_at front b ≢ name) → is_taken front name ≡ false
 fresh_name name [] h = refl
 fresh_name name (f ∷ front) h =
     elim (cases_Bool (bytes_eq f.name name)) [
@@ -88,7 +89,7 @@ all_members [] n h = tt
 all_members (p ∷ ps) n h =
     (h p (or_left (p == p) (has ps p) (eq-eqb p p refl)), all_members ps n (λ q k. h q (let w : (p == q || has ps q) ≡ true = grind (arith, nat_tests) in w)))
 
-module _ (alphabet : DistributedAlphabet) (whole : IsDistributed alphabet) where
+module _ (alphabet : DistributedAlphabet) (whole : IsDistributed alphabet) (short : length alphabet.letters ≤ most_letters) where
   letters_from : (front ls : List NamedLetter) → front ++ ls ≡ alphabet.letters → AreLetters alphabet.processes front ls
   letters_from front [] e = tt
   letters_from front (l ∷ ls) e =
@@ -98,7 +99,6 @@ module _ (alphabet : DistributedAlphabet) (whole : IsDistributed alphabet) where
       let inside : at < length alphabet.letters = omega arith in
       let name : name_at alphabet.letters at ≡ l.name = ap (λ xs. name_at xs at) (sym e) ∙ name_behind front ls l in
       let loc : procs_at alphabet.letters at ≡ l.loc = ap (λ xs. procs_at xs at) (sym e) ∙ procs_behind front ls l in
-      let most = whole.few_letters in
       let process = whole.located.some at inside in
       let mine : (p : ℕ) → has (members l.loc) p ≡ true → p < alphabet.processes = λ p k. whole.located.below at p inside (ap (λ s. has (members s) p) loc ∙ k) in (
         record {
@@ -159,33 +159,33 @@ module _ (lang : PartialDfa) (whole : IsPartial lang) where
   both_by_one (r ∷ front) row all h = (all.0, both_by_one front row all.1 h)
 
   rows_from : (front : List Row) (j k : ℕ) → AllByRecursion IsRowOf front → j + k ≤ lang.states * length lang.alphabet.letters
-      → AreRows lang.states lang.alphabet.letters front (filter_map (langs.row_of_cell lang) (range_with_len j k))
+      → AreRows lang.states lang.alphabet.letters front (filter_map (printed.row_of_cell lang) (range_with_len j k))
   rows_from front j zero all h = tt
   rows_from front j (suc k) all h = by_target (slice_index_or lang.targets j None) refl (λ fronts more. rows_from fronts (j + 1) k more (omega arith))
     where
       by_target : (o : Option ℕ) → slice_index_or lang.targets j None ≡ o
-          → ((fronts : List Row) → AllByRecursion IsRowOf fronts → AreRows lang.states lang.alphabet.letters fronts (filter_map (langs.row_of_cell lang) (range_with_len (j + 1) k)))
-          → AreRows lang.states lang.alphabet.letters front (filter_map (langs.row_of_cell lang) (range_with_len j (suc k)))
+          → ((fronts : List Row) → AllByRecursion IsRowOf fronts → AreRows lang.states lang.alphabet.letters fronts (filter_map (printed.row_of_cell lang) (range_with_len (j + 1) k)))
+          → AreRows lang.states lang.alphabet.letters front (filter_map (printed.row_of_cell lang) (range_with_len j (suc k)))
       by_target None e next = rw e (next front all)
       by_target (Some to) e next =
           let row : Row = record { from = j / length lang.alphabet.letters; letter = record { 0 = j % length lang.alphabet.letters }; to = to } in
           let is : IsRowOf row = row_of_target j to (omega arith) e in
           rw e (record { from = is.from; letter = is.letter; to = is.to; alone = alone_among front row.from row.letter.0 to all is.target }, next (front ++ row ∷ []) (both_by_one front row all is))
 
-  pub rows_fit : AreRows lang.states lang.alphabet.letters [] (rows_of lang)
+  pub rows_fit : AreRows lang.states lang.alphabet.letters [] (table_rows lang)
   rows_fit = rows_from [] 0 (lang.states * length lang.alphabet.letters) tt (omega arith)
 
   -- the target that rows give a cell
   abbrev target_by : List Row → ℕ → Option ℕ
   target_by rows i = target_in rows (i / length lang.alphabet.letters) (i % length lang.alphabet.letters)
 
-  other_cell : (c i : ℕ) (rest : List Row) → c ≢ i → target_by (cons_option (langs.row_of_cell lang c) rest) i ≡ target_by rest i
+  other_cell : (c i : ℕ) (rest : List Row) → c ≢ i → target_by (cons_option (printed.row_of_cell lang c) rest) i ≡ target_by rest i
   other_cell c i rest ne = by_target (slice_index_or lang.targets c None) refl
     where
       letters : ℕ
       letters = length lang.alphabet.letters
 
-      by_target : (o : Option ℕ) → slice_index_or lang.targets c None ≡ o → target_by (cons_option (langs.row_of_cell lang c) rest) i ≡ target_by rest i
+      by_target : (o : Option ℕ) → slice_index_or lang.targets c None ≡ o → target_by (cons_option (printed.row_of_cell lang c) rest) i ≡ target_by rest i
       by_target None e = rw e refl
       by_target (Some to) e =
           let m = length lang.alphabet.letters in
@@ -201,7 +201,7 @@ module _ (lang : PartialDfa) (whole : IsPartial lang) where
           ] in
           rw e (rw apart refl)
 
-  same_cell : (i : ℕ) (rest : List Row) (o : Option ℕ) → slice_index_or lang.targets i None ≡ o → target_by rest i ≡ None → target_by (cons_option (langs.row_of_cell lang i) rest) i ≡ o
+  same_cell : (i : ℕ) (rest : List Row) (o : Option ℕ) → slice_index_or lang.targets i None ≡ o → target_by rest i ≡ None → target_by (cons_option (printed.row_of_cell lang i) rest) i ≡ o
   same_cell i rest None e none = rw e none
   same_cell i rest (Some to) e none =
       let m = length lang.alphabet.letters in
@@ -209,30 +209,30 @@ module _ (lang : PartialDfa) (whole : IsPartial lang) where
       let a : (i % m == i % m) ≡ true = eq-eqb _ _ refl in
       rw e (rw (q, a) refl)
 
-  none_past : (j k i : ℕ) → i < j → target_by (filter_map (langs.row_of_cell lang) (range_with_len j k)) i ≡ None
+  none_past : (j k i : ℕ) → i < j → target_by (filter_map (printed.row_of_cell lang) (range_with_len j k)) i ≡ None
   none_past j zero i h = refl
-  none_past j (suc k) i h = other_cell j i (filter_map (langs.row_of_cell lang) (range_with_len (j + 1) k)) (λ e. omega arith) ∙ none_past (j + 1) k i (omega arith)
+  none_past j (suc k) i h = other_cell j i (filter_map (printed.row_of_cell lang) (range_with_len (j + 1) k)) (λ e. omega arith) ∙ none_past (j + 1) k i (omega arith)
 
-  found_at : (j k i : ℕ) → j ≤ i → i < j + k → target_by (filter_map (langs.row_of_cell lang) (range_with_len j k)) i ≡ slice_index_or lang.targets i None
+  found_at : (j k i : ℕ) → j ≤ i → i < j + k → target_by (filter_map (printed.row_of_cell lang) (range_with_len j k)) i ≡ slice_index_or lang.targets i None
   found_at j zero i low high = absurd (omega arith)
   found_at j (suc k) i low high =
       elim (cases_eq i j) [
         | inl e ↦
-            subst (λ n. target_by (cons_option (langs.row_of_cell lang n) (filter_map (langs.row_of_cell lang) (range_with_len (j + 1) k))) i ≡ slice_index_or lang.targets i None) e
-            (same_cell i (filter_map (langs.row_of_cell lang) (range_with_len (j + 1) k)) (slice_index_or lang.targets i None) refl (none_past (j + 1) k i (omega arith)))
+            subst (λ n. target_by (cons_option (printed.row_of_cell lang n) (filter_map (printed.row_of_cell lang) (range_with_len (j + 1) k))) i ≡ slice_index_or lang.targets i None) e
+            (same_cell i (filter_map (printed.row_of_cell lang) (range_with_len (j + 1) k)) (slice_index_or lang.targets i None) refl (none_past (j + 1) k i (omega arith)))
         | inr ne ↦
-            other_cell j i (filter_map (langs.row_of_cell lang) (range_with_len (j + 1) k)) (λ e. ne (sym e)) ∙ found_at (j + 1) k i (let w : j + 1 ≤ i = omega arith in w) (omega arith)
+            other_cell j i (filter_map (printed.row_of_cell lang) (range_with_len (j + 1) k)) (λ e. ne (sym e)) ∙ found_at (j + 1) k i (let w : j + 1 ≤ i = omega arith in w) (omega arith)
       ]
 
   -- the rows give the targets back
-  pub targets_back : targets_of_rows lang.states (length lang.alphabet.letters) (rows_of lang) ≡ lang.targets
+  pub targets_back : cells_of lang.states (length lang.alphabet.letters) (table_rows lang) ≡ lang.targets
   targets_back =
       let n = lang.states * length lang.alphabet.letters in
-      let size : length (targets_of_rows lang.states (length lang.alphabet.letters) (rows_of lang)) ≡ n = length-map-range_with_len (target_by (rows_of lang)) 0 n in
-      ext_get_or None (targets_of_rows lang.states (length lang.alphabet.letters) (rows_of lang)) lang.targets (size ∙ sym whole.targets_length)
+      let size : length (cells_of lang.states (length lang.alphabet.letters) (table_rows lang)) ≡ n = length-map-range_with_len (target_by (table_rows lang)) 0 n in
+      ext_get_or None (cells_of lang.states (length lang.alphabet.letters) (table_rows lang)) lang.targets (size ∙ sym whole.targets_length)
       (λ i h.
       let below : i < n = omega arith in
-      get_or-map-range_with_len (target_by (rows_of lang)) 0 n i i None below (omega arith) ∙ found_at 0 n i (omega arith) (omega arith))
+      get_or-map-range_with_len (target_by (table_rows lang)) 0 n i i None below (omega arith) ∙ found_at 0 n i (omega arith) (omega arith))
 
   -- ---- accepting states
 
@@ -250,11 +250,11 @@ module _ (lang : PartialDfa) (whole : IsPartial lang) where
   and_right false b h = refl
 
   -- the accepting states give the marks back
-  pub accepting_back : accepting_of lang.states (accepting_states lang) ≡ lang.accepting
+  pub accepting_back : acceptance_of lang.states (accepting_states lang) ≡ lang.accepting
   accepting_back =
       let n = lang.states in
-      let size : length (accepting_of n (accepting_states lang)) ≡ n = length-map-range_with_len (has (accepting_states lang)) 0 n in
-      ext_get_or false (accepting_of n (accepting_states lang)) lang.accepting (size ∙ sym whole.accepting_length)
+      let size : length (acceptance_of n (accepting_states lang)) ≡ n = length-map-range_with_len (has (accepting_states lang)) 0 n in
+      ext_get_or false (acceptance_of n (accepting_states lang)) lang.accepting (size ∙ sym whole.accepting_length)
       (λ q h.
       let below : q < n = omega arith in
       let low : nat_lt q n ≡ true = grind (arith, nat_tests) in

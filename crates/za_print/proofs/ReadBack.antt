@@ -7,21 +7,24 @@ use Rattle.std.proofs.lemmas.Grind.{common_steps}
 use Rattle.std.proofs.lemmas.Bool.Decides.{nat_tests}
 use Rattle.std.proofs.lemmas.List.{append-nil, ext_get_or, length-map}
 use Rattle.std.proofs.lemmas.List.FromFn.{get_or-map-range_with_len, length-map-range_with_len}
+use Rattle.za_text.specs.Printed.{number_line}
+use Rattle.za_names.specs.Limits.{most_name_bytes}
 use Rattle.za_text.specs.Names.{begins_with_digit, is_name, is_name_byte}
 use Rattle.za_alpha.specs.Procs.{members}
 use Rattle.za_alpha.specs.Alphabet.{NamedLetter, DistributedAlphabet, name_at}
 use Rattle.za_dfa.specs.declared.rows.Row.{Row}
 use Rattle.za_script.specs.Scripts.{total}
 use Rattle.za_script.specs.ScriptLists.{script_of, IsLetterOf}
-use Rattle.za_lang.specs.Langs.{rows_of}
+use Rattle.za_script.specs.Limits.{most_script_letters}
+use Rattle.za_lang.specs.Limits.{most_processes, most_states}
 use Rattle.za_lang.specs.Jobs.{JobData, IsJob}
 use Rattle.za_lang.specs.Order.{head_of, order_fault}
-use Rattle.za_lang.specs.Documents.{Said, Step, said, words_fault, faults_from, fault_of, joined, job_said, job_of, scripts_said}
-use Rattle.za_print.specs.Printed.{number_line, letter_line, accepting_states, accept_line, row_line, row_lines, script_line, script_lines, job_lines, printed}
+use Rattle.za_lang.specs.Documents.{Said, Step, said, words_fault, faults_from, fault_of, script_of_steps, job_said, job_of, scripts_said}
+use Rattle.za_print.specs.Printed.{letter_line, accepting_states, accept_line, row_line, table_rows, row_lines, script_line, script_lines, job_lines, printed}
 use Rattle.za_print.proofs.PrintedLines.{CanPrint, is_inner, IsLine, lines_of_text}
-use Rattle.za_print.proofs.Decimals.{number_of-decimal, numbers-decimal, word-decimal}
-use Rattle.za_lang.specs.Reading.{more}
-use Rattle.za_lang.specs.Shown.{nothing}
+use Rattle.za_print.proofs.Decimals.{numeral_value-decimal, numbers-decimal, word-decimal}
+use Rattle.za_lang.specs.Private.Gathering.{more}
+use Rattle.za_lang.specs.Private.Reading.{nothing}
 use Rattle.za_lang.proofs.Saying.{said_none}
 use Rattle.za_print.proofs.Runs.{RunsTo, runs_on, runs_whole, small_numbers, AreLetters, placed, after_letters, letters_run, accepts_right, Finds, AreRows, after_rows, rows_run, StepFits, steps_right, steps_by_one, script_said}
 use Rattle.za_print.proofs.Facts.{one_by_one, weaker_by_one, finds_letters, letters_fit, rows_fit, targets_back, accepting_below, accepting_back}
@@ -62,13 +65,13 @@ AreFit alphabet scripts = (q : ℕ) → q < alphabet.processes → AllByRecursio
 
 scripts_run : (alphabet : DistributedAlphabet) (scripts : List (List ℕ)) (s : Said) (p k : ℕ) → alphabet.processes < 2 ^ 32 → Finds alphabet.letters → AreFit alphabet scripts
     → s.processes ≡ alphabet.processes → s.letters ≡ alphabet.letters → order_fault s.place (head_of (codes "script")) ≡ None
-    → p + k ≤ alphabet.processes → length s.steps + lengths_from scripts p k ≤ 65536
+    → p + k ≤ alphabet.processes → length s.steps + lengths_from scripts p k ≤ most_script_letters
     → RunsTo s (map (script_line alphabet scripts) (range_with_len p k)) (after_scripts s scripts p k)
 scripts_run alphabet scripts s p zero few finds fits counts letters o inside room = refl
 scripts_run alphabet scripts s p (suc k) few finds fits counts letters o inside room =
     let script = script_of scripts p in
     let own : AllByRecursion (StepFits alphabet.letters p) script = fits p (omega arith) in
-    let n = number_of-decimal p (omega arith) in
+    let n = numeral_value-decimal p (omega arith) in
     let there : nat_lt p alphabet.processes ≡ true = let low : p < alphabet.processes = omega arith in grind (arith, nat_tests) in
     let right = steps_right alphabet.letters p (length s.steps) script finds own (omega arith) in
     let said = script_said alphabet.letters p script finds own in
@@ -114,7 +117,7 @@ names_inner (b ∷ bs) h =
 name_word : (name : List ℕ) → is_name name ≡ true → CanPrint name
 name_word [] h = absurd (cc)
 name_word (b ∷ bs) h =
-    let parts = and_parts (nat_le 1 (length (b ∷ bs)) && nat_le (length (b ∷ bs)) 32 && not (begins_with_digit (b ∷ bs))) (list_all is_name_byte (b ∷ bs)) h in
+    let parts = and_parts (nat_le 1 (length (b ∷ bs)) && nat_le (length (b ∷ bs)) most_name_bytes && not (begins_with_digit (b ∷ bs))) (list_all is_name_byte (b ∷ bs)) h in
     record { some = omega arith; inner = names_inner (b ∷ bs) parts.1 }
 
 numbers_words : (ns : List ℕ) → AllByRecursion (λ n. n < 2 ^ 32) ns → AllByRecursion CanPrint (map decimal ns)
@@ -156,31 +159,31 @@ both_lines (x ∷ xs) ys h k = (h.0, both_lines xs ys h.1 k)
 
 -- ---- the scripts that steps say
 
-joined-append : (xs ys : List Step) (q : ℕ) → joined (xs ++ ys) q ≡ joined xs q ++ joined ys q
+joined-append : (xs ys : List Step) (q : ℕ) → script_of_steps (xs ++ ys) q ≡ script_of_steps xs q ++ script_of_steps ys q
 joined-append xs ys q = grind (arith, common_steps)
 
-joined_own : (q : ℕ) (script : List ℕ) → joined (steps_by_one q script) q ≡ script
+joined_own : (q : ℕ) (script : List ℕ) → script_of_steps (steps_by_one q script) q ≡ script
 joined_own q [] = refl
 joined_own q (a ∷ script) = let e : (q == q) ≡ true = grind (arith, nat_tests) in rw e (ap (λ xs. a ∷ xs) (joined_own q script))
 
-joined_none : (r q : ℕ) (script : List ℕ) → (r == q) ≡ false → joined (steps_by_one r script) q ≡ []
+joined_none : (r q : ℕ) (script : List ℕ) → (r == q) ≡ false → script_of_steps (steps_by_one r script) q ≡ []
 joined_none r q [] h = refl
 joined_none r q (a ∷ script) h = rw h (joined_none r q script h)
 
-joined_before : (scripts : List (List ℕ)) (p k q : ℕ) → q < p → joined (steps_of_range scripts p k) q ≡ []
+joined_before : (scripts : List (List ℕ)) (p k q : ℕ) → q < p → script_of_steps (steps_of_range scripts p k) q ≡ []
 joined_before scripts p zero q h = refl
 joined_before scripts p (suc k) q h =
     let e : (p == q) ≡ false = grind (arith, nat_tests) in
     joined-append (steps_by_one p (script_of scripts p)) (steps_of_range scripts (p + 1) k) q
     ∙ rw (joined_none p q (script_of scripts p) e) (joined_before scripts (p + 1) k q (omega arith))
 
-joined_at : (scripts : List (List ℕ)) (p k q : ℕ) → p ≤ q → q < p + k → joined (steps_of_range scripts p k) q ≡ script_of scripts q
+joined_at : (scripts : List (List ℕ)) (p k q : ℕ) → p ≤ q → q < p + k → script_of_steps (steps_of_range scripts p k) q ≡ script_of scripts q
 joined_at scripts p zero q low high = absurd (omega arith)
 joined_at scripts p (suc k) q low high =
     joined-append (steps_by_one p (script_of scripts p)) (steps_of_range scripts (p + 1) k) q
     ∙ elim (cases_eq q p) [
       | inl e ↦
-          subst (λ r. joined (steps_by_one r (script_of scripts r)) q ++ joined (steps_of_range scripts (p + 1) k) q ≡ script_of scripts q) e
+          subst (λ r. script_of_steps (steps_by_one r (script_of scripts r)) q ++ script_of_steps (steps_of_range scripts (p + 1) k) q ≡ script_of scripts q) e
           (rw (joined_own q (script_of scripts q), joined_before scripts (p + 1) k q (omega arith)) (append-nil (script_of scripts q)))
       | inr ne ↦
           let apart : (p == q) ≡ false = grind (arith, nat_tests) in
@@ -201,7 +204,7 @@ module _ (job : JobData) (whole : IsJob job) where
     states = job.lang.states;
     start = job.lang.start;
     accepts = accepting_states job.lang;
-    rows = rows_of job.lang;
+    rows = table_rows job.lang;
     steps = steps_of_range job.scripts 0 alphabet.processes;
   })
 
@@ -214,7 +217,7 @@ module _ (job : JobData) (whole : IsJob job) where
       weaker_by_one (IsLetterOf alphabet q) (StepFits alphabet.letters q) (script_of job.scripts q) (λ a own. record { letter = own.letter; own = own.own })
       (one_by_one (IsLetterOf alphabet q) (script_of job.scripts q) (whole.fit.own q (omega arith)))
 
-  room : 0 + lengths_from job.scripts 0 alphabet.processes ≤ 65536
+  room : 0 + lengths_from job.scripts 0 alphabet.processes ≤ most_script_letters
   room =
       let split = lengths_split job.scripts 0 alphabet.processes in
       let size = whole.fit.processes in
@@ -225,20 +228,20 @@ module _ (job : JobData) (whole : IsJob job) where
 
   job_runs : RunsTo nothing (job_lines job) told
   job_runs =
-      let most = whole.lang.distributed.few_processes in
+      let most = whole.limits.few_processes in
       let least = whole.lang.distributed.some_process in
-      let many = whole.lang.few_states in
+      let many = whole.limits.few_states in
       let some = whole.lang.some_state in
       let first = whole.lang.starts in
       let few : alphabet.processes < 2 ^ 32 = omega arith in
       let states_few : job.lang.states < 2 ^ 32 = omega arith in
-      let n = number_of-decimal alphabet.processes few in
-      let m = number_of-decimal job.lang.states states_few in
-      let q = number_of-decimal job.lang.start (omega arith) in
+      let n = numeral_value-decimal alphabet.processes few in
+      let m = numeral_value-decimal job.lang.states states_few in
+      let q = numeral_value-decimal job.lang.start (omega arith) in
       let low : nat_le 1 alphabet.processes ≡ true = grind (arith, nat_tests) in
-      let high : nat_le alphabet.processes 6 ≡ true = grind (arith, nat_tests) in
+      let high : nat_le alphabet.processes most_processes ≡ true = grind (arith, nat_tests) in
       let low' : nat_le 1 job.lang.states ≡ true = grind (arith, nat_tests) in
-      let high' : nat_le job.lang.states 32 ≡ true = grind (arith, nat_tests) in
+      let high' : nat_le job.lang.states most_states ≡ true = grind (arith, nat_tests) in
       let begin : nat_lt job.lang.start job.lang.states ≡ true = grind (arith, nat_tests) in
       let accepts = accepting_states job.lang in
       let below = accepting_below job.lang whole.lang in
@@ -250,18 +253,18 @@ module _ (job : JobData) (whole : IsJob job) where
       let s4 : Said = placed (codes "states") (record s3 { states = job.lang.states }) in
       let s5 : Said = placed (codes "start") (record s4 { start = job.lang.start }) in
       let s6 : Said = placed (codes "accept") (record s5 { accepts = accepts }) in
-      let s7 : Said = record s6 { rows = rows_of job.lang } in
+      let s7 : Said = record s6 { rows = table_rows job.lang } in
       let s8 : Said = placed (codes "script") (record s7 { steps = steps_of_range job.scripts 0 alphabet.processes }) in
       let end : RunsTo s8 ((codes "end" ∷ []) ∷ []) told = (refl, simp append-nil) in
       let run_scripts : RunsTo s7 (script_lines alphabet job.scripts) s8 =
       subst (λ (x : Said). RunsTo s7 (script_lines alphabet job.scripts) x) (scripts_are job.scripts s7 0 alphabet.processes least)
       (scripts_run alphabet job.scripts s7 0 alphabet.processes few finds scripts_fit refl refl refl (omega arith) room) in
       let run_rows : RunsTo s6 (row_lines job.lang) s7 =
-      subst (λ (x : Said). RunsTo s6 (row_lines job.lang) x) (rows_are s6 (rows_of job.lang))
-      (rows_run s6 (rows_of job.lang) states_few finds refl refl (rows_fit job.lang whole.lang)) in
+      subst (λ (x : Said). RunsTo s6 (row_lines job.lang) x) (rows_are s6 (table_rows job.lang))
+      (rows_run s6 (table_rows job.lang) states_few finds refl refl (rows_fit job.lang whole.lang)) in
       let run_letters : RunsTo s2 (map letter_line alphabet.letters) s3 =
       subst (λ (x : Said). RunsTo s2 (map letter_line alphabet.letters) x) (letters_are s2 alphabet.letters whole.lang.distributed.some_letter)
-      (letters_run s2 alphabet.letters few refl (letters_fit alphabet whole.lang.distributed)) in
+      (letters_run s2 alphabet.letters few refl (letters_fit alphabet whole.lang.distributed whole.limits.few_letters)) in
       let l_end : List (List (List ℕ)) = (codes "end" ∷ []) ∷ [] in
       let l_scripts : List (List (List ℕ)) = script_lines alphabet job.scripts ++ l_end in
       let l_rows : List (List (List ℕ)) = row_lines job.lang ++ l_scripts in
@@ -283,8 +286,8 @@ module _ (job : JobData) (whole : IsJob job) where
 
   job_are_lines : AllByRecursion IsLine (job_lines job)
   job_are_lines =
-      let most = whole.lang.distributed.few_processes in
-      let many = whole.lang.few_states in
+      let most = whole.limits.few_processes in
+      let many = whole.limits.few_states in
       let first = whole.lang.starts in
       let few : alphabet.processes < 2 ^ 32 = omega arith in
       let states_few : job.lang.states < 2 ^ 32 = omega arith in
@@ -292,13 +295,13 @@ module _ (job : JobData) (whole : IsJob job) where
         (literal (codes "zla") refl refl, (literal (codes "1") refl refl, tt)),
         (
           (literal (codes "processes") refl refl, (word-decimal alphabet.processes few, tt)),
-          both_lines (map letter_line alphabet.letters) _ (letters_lines alphabet.processes [] alphabet.letters few (letters_fit alphabet whole.lang.distributed)) (
+          both_lines (map letter_line alphabet.letters) _ (letters_lines alphabet.processes [] alphabet.letters few (letters_fit alphabet whole.lang.distributed whole.limits.few_letters)) (
             (literal (codes "states") refl refl, (word-decimal job.lang.states states_few, tt)),
             (
               (literal (codes "start") refl refl, (word-decimal job.lang.start (omega arith), tt)),
               (
                 (literal (codes "accept") refl refl, numbers_words accepts (small_numbers job.lang.states accepts states_few (accepting_below job.lang whole.lang))),
-                both_lines (row_lines job.lang) _ (rows_lines job.lang.states alphabet.letters [] (rows_of job.lang) states_few named (rows_fit job.lang whole.lang))
+                both_lines (row_lines job.lang) _ (rows_lines job.lang.states alphabet.letters [] (table_rows job.lang) states_few named (rows_fit job.lang whole.lang))
                     (both_lines (script_lines alphabet job.scripts) _ (scripts_lines alphabet job.scripts 0 alphabet.processes few named scripts_fit (omega arith))
                     ((literal (codes "end") refl refl, tt), tt)),
               ),
@@ -310,11 +313,11 @@ module _ (job : JobData) (whole : IsJob job) where
   scripts_back : scripts_said told ≡ job.scripts
   scripts_back =
       let n = alphabet.processes in
-      let size : length (scripts_said told) ≡ n = length-map-range_with_len (joined told.steps) 0 n in
+      let size : length (scripts_said told) ≡ n = length-map-range_with_len (script_of_steps told.steps) 0 n in
       ext_get_or [] (scripts_said told) job.scripts (size ∙ sym whole.fit.processes)
       (λ q h.
       let below : q < n = omega arith in
-      get_or-map-range_with_len (joined told.steps) 0 n q q [] below (omega arith) ∙ joined_at job.scripts 0 n q (omega arith) (omega arith))
+      get_or-map-range_with_len (script_of_steps told.steps) 0 n q q [] below (omega arith) ∙ joined_at job.scripts 0 n q (omega arith) (omega arith))
 
   -- what is read is the job
   job_back : job_said told ≡ job

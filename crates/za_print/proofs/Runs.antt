@@ -1,7 +1,7 @@
 -- Lines that are right one after the other, and what they say.
 use Rattle.std.proofs.Common.{◌≡◌, ◌∙◌, ap, sym, subst, ℕ, ◌+◌, ◌<◌, ◌≤◌, ◌^◌, true, false, List, [], ◌∷◌, ◌++◌, length, map, refl, append_assoc, arith, Some, None}
 use Rattle.std.specs.Prelude.{nat_le, nat_lt, decimal, codes}
-use Rattle.std.specs.List.{list_any, filter_map, AllByRecursion}
+use Rattle.std.specs.List.{filter_map, AllByRecursion}
 use Rattle.std.proofs.lemmas.Bool.Decides.{nat_tests}
 use Rattle.std.proofs.lemmas.List.{append-nil}
 use Rattle.za_text.specs.Lines.{RawLine}
@@ -10,15 +10,18 @@ use Rattle.za_alpha.specs.Words.{has}
 use Rattle.za_alpha.specs.Procs.{members}
 use Rattle.za_alpha.specs.Rows.{set_of}
 use Rattle.za_alpha.specs.Alphabet.{NamedLetter, name_at, place_of, procs_at}
+use Rattle.za_alpha.specs.NewNames.{is_taken}
 use Rattle.za_dfa.specs.declared.rows.Row.{Row}
 use Rattle.za_dfa.specs.Rows.{has_other}
+use Rattle.za_script.specs.Limits.{most_script_letters}
+use Rattle.za_lang.specs.Limits.{most_letters}
 use Rattle.za_lang.specs.Order.{head_of, next_place, order_fault}
-use Rattle.za_lang.specs.Tests.{has_name, loc_fault, new_letter_fault, accept_line_fault, new_row_fault, steps_fault}
+use Rattle.za_lang.specs.Tests.{loc_fault, new_letter_fault, accept_line_fault, new_row_fault, steps_fault}
 use Rattle.za_lang.specs.Documents.{Said, Step, said, words_fault, line_fault, faults_from, named_step, place_after, place_by}
 use Rattle.za_print.specs.Printed.{letter_line, row_line}
 use Rattle.za_print.proofs.PrintedLines.{IsLine, printed_line, words_of_line, line_allowed}
-use Rattle.za_print.proofs.Decimals.{number_of-decimal, numbers-decimal}
-use Rattle.za_lang.specs.Reading.{more}
+use Rattle.za_print.proofs.Decimals.{numeral_value-decimal, numbers-decimal}
+use Rattle.za_lang.specs.Private.Gathering.{more}
 use Rattle.za_lang.proofs.Saying.{said_more}
 
 -- after this the lines are right, one after the other, and come to that
@@ -63,7 +66,7 @@ below p n h = grind (arith, nat_tests)
 processes_right : (n : ℕ) (ps : List ℕ) → n < 2 ^ 32 → AllByRecursion (λ p. p < n) ps → loc_fault n (map decimal ps) ≡ None
 processes_right n [] few h = refl
 processes_right n (p ∷ ps) few h =
-    let e = number_of-decimal p (omega (arith, h.0)) in
+    let e = numeral_value-decimal p (omega (arith, h.0)) in
     let f = below p n h.0 in
     rw (e, f) (processes_right n ps few h.1)
 
@@ -73,16 +76,16 @@ small_numbers n (p ∷ ps) few h = (omega (arith, h.0), small_numbers n ps few h
 
 -- a letter that may come after these
 pub record LetterFits (n : ℕ) (front : List NamedLetter) (l : NamedLetter) : Type 0 where
-  pub few : length front < 32
+  pub few : length front < most_letters
   pub name : is_name l.name ≡ true
-  pub fresh : list_any (has_name l.name) front ≡ false
+  pub fresh : is_taken front l.name ≡ false
   pub some : 0 < length (members l.loc)
   pub procs : AllByRecursion (λ p. p < n) (members l.loc)
   pub whole : set_of (members l.loc) ≡ l.loc
 
 loc_right : (n : ℕ) (front : List NamedLetter) (l : NamedLetter) (p : ℕ) (ps : List ℕ) → n < 2 ^ 32 → LetterFits n front l → members l.loc ≡ p ∷ ps → new_letter_fault n front l.name (map decimal (p ∷ ps)) ≡ None
 loc_right n front l p ps few h e =
-    let room : nat_le 32 (length front) ≡ false = let r = h.few in grind (arith, nat_tests) in
+    let room : nat_le most_letters (length front) ≡ false = let r = h.few in grind (arith, nat_tests) in
     let right = processes_right n (p ∷ ps) few (subst (AllByRecursion (λ p. p < n)) e h.procs) in
     rw (room, h.name, h.fresh) right
 
@@ -122,7 +125,7 @@ letters_run s (l ∷ ls) few o h =
 pub accepts_right : (n : ℕ) (qs : List ℕ) → n < 2 ^ 32 → AllByRecursion (λ q. q < n) qs → accept_line_fault n (map decimal qs) ≡ None
 accepts_right n [] few h = refl
 accepts_right n (q ∷ qs) few h =
-    let e = number_of-decimal q (omega (arith, h.0)) in
+    let e = numeral_value-decimal q (omega (arith, h.0)) in
     let f = below q n h.0 in
     rw (e, f) (accepts_right n qs few h.1)
 
@@ -141,8 +144,8 @@ row_right : (states : ℕ) (letters : List NamedLetter) (front : List Row) (row 
     → new_row_fault states letters front (decimal row.from) (name_at letters row.letter.0) (decimal row.to) ≡ None
 unfolding new_row_fault
 row_right states letters front row few finds h =
-    let q = number_of-decimal row.from (omega (arith, h.from)) in
-    let r = number_of-decimal row.to (omega (arith, h.to)) in
+    let q = numeral_value-decimal row.from (omega (arith, h.from)) in
+    let r = numeral_value-decimal row.to (omega (arith, h.to)) in
     let a = finds row.letter.0 h.letter in
     let e = below row.from states h.from in
     let f = below row.to states h.to in
@@ -162,8 +165,8 @@ pub rows_run : (s : Said) (rows : List Row) → s.states < 2 ^ 32 → Finds s.le
 rows_run s [] few finds o f h = refl
 rows_run s (row ∷ rows) few finds o f h =
     let right = row_right s.states s.letters s.rows row few finds h.0 in
-    let q = number_of-decimal row.from (omega (arith, h.0.from)) in
-    let r = number_of-decimal row.to (omega (arith, h.0.to)) in
+    let q = numeral_value-decimal row.from (omega (arith, h.0.from)) in
+    let r = numeral_value-decimal row.to (omega (arith, h.0.to)) in
     let a = finds row.letter.0 h.0.letter in
     let t : Said = record s { rows = s.rows ++ row ∷ [] } in
     let step : t ≡ more s (row_line s.letters row) = rw (q, r, a, o) (simp append-nil) in
@@ -174,12 +177,12 @@ pub record StepFits (letters : List NamedLetter) (process : ℕ) (a : ℕ) : Typ
   pub letter : a < length letters
   pub own : has (members (procs_at letters a)) process ≡ true
 
-pub steps_right : (letters : List NamedLetter) (process read : ℕ) (script : List ℕ) → Finds letters → AllByRecursion (StepFits letters process) script → read + length script ≤ 65536
+pub steps_right : (letters : List NamedLetter) (process read : ℕ) (script : List ℕ) → Finds letters → AllByRecursion (StepFits letters process) script → read + length script ≤ most_script_letters
     → steps_fault letters process read (map (name_at letters) script) ≡ None
 steps_right letters process read [] finds h room = refl
 steps_right letters process read (a ∷ script) finds h room =
     let e = finds a h.0.letter in
-    let f : nat_le 65536 read ≡ false = grind (arith, nat_tests) in
+    let f : nat_le most_script_letters read ≡ false = grind (arith, nat_tests) in
     rw (e, h.0.own, f) (steps_right letters process (read + 1) script finds h.1 (omega arith))
 
 abbrev pub steps_by_one : ℕ → List ℕ → List Step

@@ -4,20 +4,20 @@ ghost use Rattle.std.specs.Prelude.{◌≡◌, None, ◌<◌, ◌≤◌, ◌*◌
 ghost use Rattle.std.specs.List.{range_with_len};
 ghost use Rattle.std.specs.Option.{option_to_list};
 ghost use Rattle.za_alpha.specs.Procs.{members};
-ghost use Rattle.za_dfa.specs.declared.rows.TheConstants.{MOST_STATES};
 ghost use Rattle.za_script.specs.ScriptLists.{FitAlphabet};
 ghost use Rattle.za_text.specs.Printed.{spaced, line, text_of};
 ghost use Rattle.za_lang.specs.Answers.{data_of};
 ghost use Rattle.za_lang.specs.Documents.{fault_of, job_of};
-ghost use Rattle.za_lang.specs.Langs.{row_of_cell};
-ghost use Rattle.za_print.specs.Printed.{letter_line, accepting_states, accept_line, row_line, row_lines, script_line, printed};
+ghost use Rattle.za_lang.specs.Limits.{most_states};
+ghost use Rattle.za_print.specs.Printed.{letter_line, accepting_states, accept_line, row_line};
+ghost use Rattle.za_print.specs.Printed.{row_of_cell, row_lines, script_line, printed};
 
-use crate::text::{push_names, push_number, push_number_if, push_number_line, push_word};
 use std::alloc::Global;
 use za_alpha::{Alphabet, Letter, OutOfMemory, Procs};
 use za_dfa::Row;
 use za_lang::{Job, Lang};
 use za_script::Scripts;
+use za_write::{push_names, push_number, push_number_if, push_number_line, push_word};
 
 /// How many processes a set can tell apart.
 const WIDTH: usize = 16;
@@ -34,7 +34,8 @@ fn push_processes(text: &mut Vec<u8>, processes: Procs) -> Result<(), OutOfMemor
 
 /// The line of a letter.
 fn push_letter(text: &mut Vec<u8>, name: &[u8], processes: Procs) -> Result<(), OutOfMemory>
-    ensures { OnOk result (text.new.items ≡ text.old.items ++ line (codes "letter" ∷ name.now ∷ map decimal (members processes))) }
+    ensures { OnOk result (text.new.items
+        ≡ text.old.items ++ line (codes "letter" ∷ name.now ∷ map decimal (members processes))) }
 {
     text.extend_from_slice(b"letter")?;
     push_word(text, name)?;
@@ -56,7 +57,8 @@ fn push_letters(text: &mut Vec<u8>, alphabet: &Alphabet) -> Result<(), OutOfMemo
 
 /// The accepting states in rising order, each after a space.
 fn push_accepting(text: &mut Vec<u8>, lang: &Lang) -> Result<(), OutOfMemory>
-    ensures { OnOk result (text.new.items ≡ text.old.items ++ spaced (map decimal (accepting_states lang.now))) }
+    ensures { OnOk result (text.new.items
+        ≡ text.old.items ++ spaced (map decimal (accepting_states lang.now))) }
 {
     for q in 0..lang.states() {
         push_number_if(text, lang.accepting(q as u8), q)?;
@@ -90,9 +92,11 @@ fn push_row(text: &mut Vec<u8>, alphabet: &Alphabet, row: Row) -> Result<(), Out
 /// The line of a cell of the table, if it has a target. Cell `q * m + a` is that of state `q` and
 /// letter `a`, where there are `m` letters.
 fn push_cell(text: &mut Vec<u8>, lang: &Lang, cell: usize) -> Result<(), OutOfMemory>
-    requires few { lang.now.states ≤ MOST_STATES }
+    requires few { lang.now.states ≤ most_states }
     requires cell { cell < lang.now.states * length lang.now.alphabet.letters }
-    ensures { OnOk result (text.new.items ≡ text.old.items ++ text_of (map (row_line lang.now.alphabet.letters) (option_to_list (row_of_cell lang.now cell)))) }
+    ensures { OnOk result (text.new.items
+        ≡ text.old.items ++ text_of (map (row_line lang.now.alphabet.letters)
+        (option_to_list (row_of_cell lang.now cell)))) }
 {
     let alphabet = lang.alphabet();
     let q = (cell / alphabet.letters()) as u8;
@@ -145,7 +149,9 @@ fn push_scripts(
 ) -> Result<(), OutOfMemory>
     requires fit { FitAlphabet alphabet.now scripts.now }
     requires processes { processes ≤ length scripts.now }
-    ensures { OnOk result (text.new.items ≡ text.old.items ++ text_of (map (script_line alphabet.now scripts.now) (range_with_len 0 processes))) }
+    ensures { OnOk result (text.new.items
+        ≡ text.old.items ++ text_of (map (script_line alphabet.now scripts.now)
+        (range_with_len 0 processes))) }
 {
     for p in 0..processes {
         push_script(text, alphabet, scripts, p)?;
@@ -158,11 +164,12 @@ fn push_scripts(
 /// A letter's processes, the accepting states, the rows (by state, then by letter) and the processes of
 /// the script lines rise, and each process has one script line, also where its script is empty. The
 /// scripts have to fit the alphabet. `read_job` of the printed form answers an equal job.
-/// `OutOfMemory` comes only where memory is refused.
+/// Want of memory is the one free answer.
 pub fn print_job(alloc: Global, job: &Job) -> Result<Vec<u8>, OutOfMemory>
     requires { FitAlphabet job.now.lang.alphabet job.now.scripts }
     ensures text { IfOk result (λ text. text.items ≡ printed (data_of job.now)) }
-    ensures read_back { IfOk result (λ text. (fault_of text.items ≡ None) × (job_of text.items ≡ data_of job.now)) }
+    ensures read_back { IfOk result
+        (λ text. (fault_of text.items ≡ None) × (job_of text.items ≡ data_of job.now)) }
 {
     let lang = &job.lang;
     let alphabet = lang.alphabet();

@@ -1,41 +1,26 @@
 -- The texts of answers and refusals.
-use Rattle.std.specs.Prelude.{◌≡◌, ◌<◌, ℕ, ◌+◌, ◌*◌, ◌^◌, nat_lt, List, [], ◌∷◌, ◌++◌, length, map, codes, decimal, slice_index, if◌then◌else◌}
+use Rattle.std.specs.Prelude.{ℕ, ◌+◌, ◌*◌, nat_lt, List, [], ◌∷◌, ◌++◌, length, map, codes, decimal}
+use Rattle.std.specs.Prelude.{slice_index, if◌then◌else◌}
 use Rattle.std.specs.List.{range_with_len}
 use Rattle.za_alpha.specs.Words.{projection}
 use Rattle.za_alpha.specs.Alphabet.{DistributedAlphabet, loc_of, name_at}
+use Rattle.za_order.specs.Labels.{label_bound}
 use Rattle.za_script.specs.declared.answer.Answer.{Answer}
 use Rattle.za_script.specs.declared.answer.Answer.TheVariants.{Accept, Reject, Stuck}
 use Rattle.za_script.specs.ScriptLists.{script_of}
-use Rattle.za_script.specs.Scripts.{weave}
-use Rattle.za_script.specs.Woven.{WovenWord}
 use Rattle.za_text.specs.declared.kind.TextFault.{TextFault}
 use Rattle.za_text.specs.Kinds.{kind_text}
-use Rattle.za_text.specs.Printed.{text_of}
-use Rattle.za_print.specs.Printed.{number_line}
+use Rattle.za_text.specs.Printed.{text_of, number_line}
 
--- the weave of a job's scripts
-abbrev pub weave_of : DistributedAlphabet → List (List ℕ) → List ℕ
-weave_of alphabet scripts = weave (loc_of alphabet) (length alphabet.letters) alphabet.processes (script_of scripts)
-
--- the woven word is the weave of the scripts, with the counts of its projections
-pub record IsWeave (alphabet : DistributedAlphabet) (scripts : List (List ℕ)) (woven : WovenWord) : Type 0 where
-  pub word : woven.word ≡ weave_of alphabet scripts
-  pub processes : length woven.counts ≡ alphabet.processes
-  pub counts : (p : ℕ) → p < alphabet.processes → slice_index woven.counts p ≡ length (projection (loc_of alphabet) p woven.word)
-
--- how many labels there are at most: each letter has n^3 + 1
-abbrev pub label_bound : DistributedAlphabet → ℕ
-label_bound alphabet = length alphabet.letters * (alphabet.processes ^ 3 + 1)
-
--- how many records there are at most: one for each process and for one firing, and as many for each
--- cache row
+-- how many records there are at most: one for each process and for one firing, and as many for each cache row
 abbrev pub record_bound : DistributedAlphabet → ℕ → ℕ
 record_bound alphabet cache = alphabet.processes + 1 + (alphabet.processes + 1) * cache
 
 -- the line of both bounds
 abbrev pub bound_line : DistributedAlphabet → ℕ → List (List ℕ)
 bound_line alphabet cache =
-    codes "bound" ∷ codes "labels" ∷ decimal (label_bound alphabet) ∷ codes "records" ∷ decimal (record_bound alphabet cache) ∷ []
+    codes "bound" ∷ codes "labels" ∷ decimal (label_bound (length alphabet.letters) alphabet.processes)
+    ∷ codes "records" ∷ decimal (record_bound alphabet cache) ∷ []
 
 -- ---- answers
 
@@ -52,20 +37,24 @@ names_line word alphabet letters = word ∷ map (name_at alphabet.letters) lette
 -- what process p waits for after so many of its events: the next letter of its script, if there is one
 abbrev pub wait_words : DistributedAlphabet → List ℕ → ℕ → List (List ℕ)
 wait_words alphabet script fired =
-    if nat_lt fired (length script) then codes "waits" ∷ name_at alphabet.letters (slice_index script fired) ∷ [] else codes "ended" ∷ []
+    if nat_lt fired (length script) then codes "waits" ∷ name_at alphabet.letters (slice_index script fired) ∷ []
+    else codes "ended" ∷ []
 
 -- process p after so many of its events
 abbrev pub process_words : DistributedAlphabet → List ℕ → ℕ → ℕ → List (List ℕ)
-process_words alphabet script p fired = codes "process" ∷ decimal p ∷ codes "fired" ∷ decimal fired ∷ wait_words alphabet script fired
+process_words alphabet script p fired =
+    codes "process" ∷ decimal p ∷ codes "fired" ∷ decimal fired ∷ wait_words alphabet script fired
 
 -- process p after the word
 abbrev pub process_line : DistributedAlphabet → List (List ℕ) → List ℕ → ℕ → List (List ℕ)
-process_line alphabet scripts word p = process_words alphabet (script_of scripts p) p (length (projection (loc_of alphabet) p word))
+process_line alphabet scripts word p =
+    process_words alphabet (script_of scripts p) p (length (projection (loc_of alphabet) p word))
 
 -- where the scripts are stuck: each process, and the word that fired
 abbrev pub stuck_lines : DistributedAlphabet → List (List ℕ) → List ℕ → List (List (List ℕ))
 stuck_lines alphabet scripts word =
-    map (process_line alphabet scripts word) (range_with_len 0 alphabet.processes) ++ names_line (codes "trace") alphabet word ∷ []
+    map (process_line alphabet scripts word) (range_with_len 0 alphabet.processes)
+    ++ names_line (codes "trace") alphabet word ∷ []
 
 abbrev pub more_lines : DistributedAlphabet → List (List ℕ) → List ℕ → Answer → List (List (List ℕ))
 more_lines alphabet scripts word Accept = []
@@ -75,21 +64,25 @@ more_lines alphabet scripts word Stuck = stuck_lines alphabet scripts word
 -- the text of an answer, with the word that fired and so many cache rows
 abbrev pub answer_text : DistributedAlphabet → List (List ℕ) → List ℕ → Answer → ℕ → List ℕ
 answer_text alphabet scripts word answer cache =
-    text_of ((answer_word answer ∷ []) ∷ number_line (codes "fired") (length word) ∷ bound_line alphabet cache ∷ more_lines alphabet scripts word answer)
+    text_of ((answer_word answer ∷ []) ∷ number_line (codes "fired") (length word) ∷ bound_line alphabet cache
+    ∷ more_lines alphabet scripts word answer)
 
 -- ---- closed or not
 
 -- the text of a language that is closed, whose minimal automaton has so many states
 abbrev pub check_text : DistributedAlphabet → ℕ → ℕ → List ℕ
-check_text alphabet states cache = text_of ((codes "closed" ∷ []) ∷ number_line (codes "states") states ∷ bound_line alphabet cache ∷ [])
+check_text alphabet states cache =
+    text_of ((codes "closed" ∷ []) ∷ number_line (codes "states") states ∷ bound_line alphabet cache ∷ [])
 
 -- the text of a language that is not closed, with two equivalent words of which one is accepted
 abbrev pub open_text : DistributedAlphabet → List ℕ → List ℕ → List ℕ
 open_text alphabet left right =
-    text_of ((codes "not" ∷ codes "closed" ∷ []) ∷ names_line (codes "left") alphabet left ∷ names_line (codes "right") alphabet right ∷ [])
+    text_of ((codes "not" ∷ codes "closed" ∷ []) ∷ names_line (codes "left") alphabet left
+    ∷ names_line (codes "right") alphabet right ∷ [])
 
 -- ---- refusals
 
 -- the text of a document that is refused
 abbrev pub refused_text : TextFault → List ℕ
-refused_text fault = text_of ((codes "refused" ∷ codes "line" ∷ (decimal fault.line ++ codes ":") ∷ kind_text fault.kind ∷ []) ∷ [])
+refused_text fault =
+    text_of ((codes "refused" ∷ codes "line" ∷ (decimal fault.line ++ codes ":") ∷ kind_text fault.kind ∷ []) ∷ [])

@@ -5,15 +5,17 @@ ghost use Rattle.std.specs.List.{range_with_len};
 ghost use Rattle.za_alpha.specs.Words.{IsWord};
 ghost use Rattle.za_alpha.specs.Letters.{numbers};
 ghost use Rattle.za_script.specs.ScriptLists.{FitAlphabet};
+ghost use Rattle.za_script.specs.Woven.{IsWeave};
 ghost use Rattle.za_text.specs.Printed.{spaced, line, text_of};
-ghost use Rattle.za_report.specs.Texts.{IsWeave, answer_text, answer_word, process_line, process_words, stuck_lines, wait_words};
+ghost use Rattle.za_report.specs.Texts.{answer_text, answer_word, process_line, process_words, stuck_lines};
+ghost use Rattle.za_report.specs.Texts.{wait_words};
 
 use crate::bounds::push_bounds;
 use crate::closed::push_names_line;
 use std::alloc::Global;
 use za_alpha::{Alphabet, Letter, OutOfMemory};
-use za_print::{push_number, push_number_line, push_word};
 use za_script::{Answer, Scripts, Woven};
+use za_write::{push_number, push_number_line, push_word};
 
 /// The first word of an answer's text.
 fn word_of(answer: Answer) -> &'static [u8]
@@ -35,7 +37,8 @@ fn push_wait(
     fired: usize,
 ) -> Result<(), OutOfMemory>
     requires { IsWord (length alphabet.now.letters) (numbers script.now) }
-    ensures { OnOk result (text.new.items ≡ text.old.items ++ spaced (wait_words alphabet.now (numbers script.now) fired)) }
+    ensures { OnOk result (text.new.items ≡ text.old.items
+        ++ spaced (wait_words alphabet.now (numbers script.now) fired)) }
 {
     if fired < script.len() {
         push_word(text, b"waits")?;
@@ -54,7 +57,8 @@ fn push_process_words(
     fired: usize,
 ) -> Result<(), OutOfMemory>
     requires { IsWord (length alphabet.now.letters) (numbers script.now) }
-    ensures { OnOk result (text.new.items ≡ text.old.items ++ line (process_words alphabet.now (numbers script.now) p fired)) }
+    ensures { OnOk result (text.new.items ≡ text.old.items
+        ++ line (process_words alphabet.now (numbers script.now) p fired)) }
 {
     text.extend_from_slice(b"process")?;
     push_number(text, p)?;
@@ -76,7 +80,8 @@ fn push_process(
     requires fit { FitAlphabet alphabet.now scripts.now }
     requires woven { IsWeave alphabet.now scripts.now woven.now }
     requires process { p < alphabet.now.processes }
-    ensures { OnOk result (text.new.items ≡ text.old.items ++ line (process_line alphabet.now scripts.now woven.now.word p)) }
+    ensures { OnOk result (text.new.items ≡ text.old.items
+        ++ line (process_line alphabet.now scripts.now woven.now.word p)) }
 {
     let script = scripts.script(p).letters();
     push_process_words(text, alphabet, script, p, woven.count(p))
@@ -93,7 +98,8 @@ fn push_processes(
     requires fit { FitAlphabet alphabet.now scripts.now }
     requires woven { IsWeave alphabet.now scripts.now woven.now }
     requires processes { processes ≤ alphabet.now.processes }
-    ensures { OnOk result (text.new.items ≡ text.old.items ++ text_of (map (process_line alphabet.now scripts.now woven.now.word) (range_with_len 0 processes))) }
+    ensures { OnOk result (text.new.items ≡ text.old.items
+        ++ text_of (map (process_line alphabet.now scripts.now woven.now.word) (range_with_len 0 processes))) }
 {
     for p in 0..processes {
         push_process(text, alphabet, scripts, woven, p)?;
@@ -110,7 +116,8 @@ fn push_stuck(
 ) -> Result<(), OutOfMemory>
     requires fit { FitAlphabet alphabet.now scripts.now }
     requires woven { IsWeave alphabet.now scripts.now woven.now }
-    ensures { OnOk result (text.new.items ≡ text.old.items ++ text_of (stuck_lines alphabet.now scripts.now woven.now.word)) }
+    ensures { OnOk result (text.new.items ≡ text.old.items
+        ++ text_of (stuck_lines alphabet.now scripts.now woven.now.word)) }
 {
     push_processes(text, alphabet, scripts, woven, alphabet.processes())?;
     push_names_line(text, b"trace", alphabet, woven.word().letters())?;
@@ -121,7 +128,7 @@ fn push_stuck(
 /// where the scripts are stuck how far each process came, and the word that fired.
 ///
 /// `woven` is what `weave` gives for this alphabet and these scripts, and the answer is stuck exactly
-/// if it isn't whole. `OutOfMemory` comes only where memory is refused.
+/// if it isn't whole. Want of memory is the one free answer.
 pub fn answer_text(
     alloc: Global,
     alphabet: &Alphabet,

@@ -5,7 +5,7 @@ ghost use Rattle.za_text.specs.Printed.{line};
 ghost use Rattle.za_report.specs.Texts.{bound_line};
 
 use za_alpha::{Alphabet, OutOfMemory};
-use za_print::push_number;
+use za_write::push_number;
 
 /// The line of the bounds on labels of letters and on records.
 pub(crate) fn push_bounds(

@@ -9,7 +9,7 @@ ghost use Rattle.za_report.specs.Texts.{check_text, names_line, open_text};
 use crate::bounds::push_bounds;
 use std::alloc::Global;
 use za_alpha::{Alphabet, Letter, OutOfMemory, Word};
-use za_print::{push_names, push_number_line};
+use za_write::{push_names, push_number_line};
 
 /// The line of a word and the names of letters.
 pub(crate) fn push_names_line(
@@ -19,7 +19,8 @@ pub(crate) fn push_names_line(
     letters: &[Letter],
 ) -> Result<(), OutOfMemory>
     requires { IsWord (length alphabet.now.letters) (numbers letters.now) }
-    ensures { OnOk result (text.new.items ≡ text.old.items ++ line (names_line word.now alphabet.now (numbers letters.now))) }
+    ensures { OnOk result (text.new.items ≡ text.old.items
+        ++ line (names_line word.now alphabet.now (numbers letters.now))) }
 {
     text.extend_from_slice(word)?;
     push_names(text, alphabet, letters)?;
@@ -28,7 +29,7 @@ pub(crate) fn push_names_line(
 }
 
 /// The text of a language that is trace-closed: the number of states of its minimal automaton, and the
-/// bounds with so many cache rows. `OutOfMemory` comes only where memory is refused.
+/// bounds with so many cache rows. Want of memory is the one free answer.
 pub fn check_text(
     alloc: Global,
     alphabet: &Alphabet,
@@ -44,7 +45,7 @@ pub fn check_text(
 }
 
 /// The text of a language that isn't trace-closed, with two words over the alphabet that are
-/// equivalent and of which it has one. `OutOfMemory` comes only where memory is refused.
+/// equivalent and of which it has one. Want of memory is the one free answer.
 pub fn open_text(
     alloc: Global,
     alphabet: &Alphabet,

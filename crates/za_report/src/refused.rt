@@ -5,11 +5,11 @@ ghost use Rattle.za_report.specs.Texts.{refused_text};
 
 use std::alloc::Global;
 use za_alpha::OutOfMemory;
-use za_print::{push_number, push_word};
 use za_text::TextFault;
+use za_write::{push_number, push_word};
 
 /// The text of a document that is refused: its first wrong line, and what is wrong with it.
-/// `OutOfMemory` comes only where memory is refused.
+/// Want of memory is the one free answer.
 pub fn refused_text(alloc: Global, fault: &TextFault) -> Result<Vec<u8>, OutOfMemory>
     ensures { IfOk result (λ text. text.items ≡ refused_text fault.now) }
 {

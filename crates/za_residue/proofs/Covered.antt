@@ -1,5 +1,6 @@
 -- What the omitted pasts cover: what is beyond, and what the processes before know.
-use Rattle.std.proofs.Common.{◌≡◌, ℕ, ◌<◌, ◌≤◌, Bool, true, false, not, ◌&&◌, ◌||◌, inl, inr, List, [], ◌∷◌, length, Option, Some, None, refl, sym, ap, subst, ◌∙◌}
+use Rattle.std.proofs.Common.{◌≡◌, ℕ, ◌<◌, ◌≤◌, Bool, true, false, not, ◌&&◌, ◌||◌, inl, inr, List, [], ◌∷◌, length, Option, Some, None, refl, sym, ap, subst}
+use Rattle.std.proofs.Common.{◌∙◌}
 use Rattle.std.specs.List.{range_with_len, list_any}
 use Rattle.std.specs.Option.{option_map_or}
 use Rattle.std.proofs.lemmas.Bool.{cases_Bool, or_cases, or_left, or_right, and_parts, and_from, not_from_false}
@@ -74,7 +75,8 @@ module _ (loc : ℕ → List ℕ) (letters processes : ℕ) (w : List ℕ) (over
       (in-range processes u.process (secondary-processes loc letters processes w over n l b r u.process u.event u.of_best).1)
       (some-is_event (secondary who n b r u.process) u.event u.of_best)))
 
-  covered-from : (x : ℕ) (set : ℕ → Bool) (i : ℕ) → is_covered who processes n x set i ≡ true → (y : ℕ) × (set y ≡ true) × (e : ℕ) × (primary who n x y ≡ Some e) × Chain who i e
+  covered-from : (x : ℕ) (set : ℕ → Bool) (i : ℕ) → is_covered who processes n x set i ≡ true → (y : ℕ) × (set y ≡ true) × (e : ℕ)
+      × (primary who n x y ≡ Some e) × Chain who i e
   covered-from x set i h =
       let y = any-where (λ y. set y && option_map_or (λ e. in_past who e i) (primary who n x y) false) range h in
       let p = and_parts (set y.0) (option_map_or (λ e. in_past who e i) (primary who n x y.0) false) y.2 in
@@ -83,7 +85,8 @@ module _ (loc : ℕ → List ℕ) (letters processes : ℕ) (w : List ℕ) (over
 
   pub covered-to : (x : ℕ) (set : ℕ → Bool) (i y e : ℕ) → set y ≡ true → primary who n x y ≡ Some e → Chain who i e → is_covered who processes n x set i ≡ true
   covered-to x set i y e s h c =
-      any-here (λ y. set y && option_map_or (λ e. in_past who e i) (primary who n x y) false) range y (in-range processes y (primary-process loc letters processes w over n l x y e h))
+      any-here (λ y. set y && option_map_or (λ e. in_past who e i) (primary who n x y) false) range y
+      (in-range processes y (primary-process loc letters processes w over n l x y e h))
       (and_from (set y) (option_map_or (λ e. in_past who e i) (primary who n x y) false) s
       (some-passes (λ e. in_past who e i) (primary who n x y) e h (past-complete who e i y (primary-sound who n x y e h).takes c)))
 
@@ -94,8 +97,10 @@ module _ (loc : ℕ → List ℕ) (letters processes : ℕ) (w : List ℕ) (over
       best-newest who n processes xs r some.0 (bound some.0 some.1.among) some.1
 
   -- in the view of x the omitted pasts cover what is beyond, and what those before it know
-  pub omitted-cover : (xs : List ℕ) (set : ℕ → Bool) (ps : List ℕ) (x i : ℕ) → has xs x ≡ true → ((y : ℕ) → has xs y ≡ true → y < processes) → list_any set xs ≡ false →
-      in_view who n (x ∷ []) i ≡ true → is_covered who processes n x (omitted who processes n xs set ps x) i ≡ (is_beyond who processes n xs set i || in_view who n ps i)
+  pub omitted-cover : (xs : List ℕ) (set : ℕ → Bool) (ps : List ℕ) (x i : ℕ) → has xs x ≡ true → ((y : ℕ) → has xs y ≡ true → y < processes) → list_any set xs
+      ≡ false →
+      in_view who n (x ∷ []) i ≡ true → is_covered who processes n x (omitted who processes n xs set ps x) i
+      ≡ (is_beyond who processes n xs set i || in_view who n ps i)
   omitted-cover xs set ps x i hx bound apart v =
       let left = omitted who processes n xs set ps x in
       let known = λ (r : ℕ). option_map_or (λ e. in_past who e i) (primary who n (best who processes n xs r) r) false in
@@ -133,7 +138,8 @@ module _ (loc : ℕ → List ℕ) (letters processes : ℕ) (w : List ℕ) (over
             ] in
             covered-to x left i u.0 u.1.event
             (or_right (earlier who processes n ps x u.0) (list_any (λ r. set r && under who processes n xs x r u.0) range)
-            (any-here (λ r. set r && under who processes n xs x r u.0) range r.0 r.1 (and_from (set r.0) (under who processes n xs x r.0 u.0) p.0 (under-to xs x r.0 u.0 out u.1))))
+            (any-here (λ r. set r && under who processes n xs x r u.0) range r.0 r.1 (and_from (set r.0) (under who processes n xs x r.0 u.0) p.0
+            (under-to xs x r.0 u.0 out u.1))))
             u.1.of_one u.2
         | inr a ↦
             let e = earlier-complete who n ps x i v a in

@@ -1,5 +1,6 @@
 -- The residues of some processes in turn do what their joined view does.
-use Rattle.std.proofs.Common.{◌≡◌, ℕ, zero, suc, ◌<◌, ◌≤◌, Bool, true, false, not, ◌&&◌, ◌||◌, inl, inr, List, [], ◌∷◌, ◌++◌, length, take, slice_index, refl, sym, ap, ◌∙◌, arith, take-suc}
+use Rattle.std.proofs.Common.{◌≡◌, ℕ, zero, suc, ◌<◌, ◌≤◌, Bool, true, false, not, ◌&&◌, ◌||◌, inl, inr, List, [], ◌∷◌, ◌++◌, length, take, slice_index, refl}
+use Rattle.std.proofs.Common.{sym, ap, ◌∙◌, arith, take-suc}
 use Rattle.std.specs.List.{range_with_len, list_any}
 use Rattle.std.specs.Option.{option_map_or}
 use Rattle.std.proofs.Math.Seq.{take-length}
@@ -18,7 +19,7 @@ use Rattle.za_order.proofs.Participants.{IsOver, word-over}
 use Rattle.za_order.proofs.Rising.{has-place}
 use Rattle.za_dfa.specs.Automata.{Automaton, IsTotal, walk, HasDiamonds}
 use Rattle.za_dfa.proofs.Diamonds.{walk-append, diamonds_keep_the_state}
-use Rattle.za_residue.specs.Turns.{in_turn}
+use Rattle.za_residue.specs.Laws.{in_turn}
 use Rattle.za_residue.specs.Laws.{omitted, ResiduesDecide}
 use Rattle.za_residue.proofs.SharedPasts.{view-one, view-of}
 use Rattle.za_residue.proofs.Covered.{is_beyond, omitted-cover}
@@ -64,7 +65,8 @@ module _ (loc : ℕ → List ℕ) (processes : ℕ) (d : Automaton) (alphabet : 
   -- what one process more adds is its residue
   one-more : (beyond left : ℕ → Bool) (ps : List ℕ) (x q : ℕ) → q < d.states →
       ((i : ℕ) → in_view who n (x ∷ []) i ≡ true → is_covered who processes n x left i ≡ (beyond i || in_view who n ps i)) →
-      walk d.step q (subword w (known_within beyond (ps ++ x ∷ [])) n) ≡ walk d.step (walk d.step q (subword w (known_within beyond ps) n)) (residue_word loc processes w n x left)
+      walk d.step q (subword w (known_within beyond (ps ++ x ∷ [])) n) ≡ walk d.step (walk d.step q (subword w (known_within beyond ps) n))
+      (residue_word loc processes w n x left)
   one-more beyond left ps x q small covers =
       let whole : ℕ → Bool = known_within beyond (ps ++ x ∷ []) in
       let part : ℕ → Bool = known_within beyond ps in
@@ -87,11 +89,13 @@ module _ (loc : ℕ → List ℕ) (processes : ℕ) (d : Automaton) (alphabet : 
 
   -- so the first k of xs do in turn what their joined view does
   pub compose-first : (beyond : ℕ → Bool) (left : List ℕ → ℕ → ℕ → Bool) (xs : List ℕ) (q : ℕ) → q < d.states →
-      ((ps : List ℕ) (x i : ℕ) → has xs x ≡ true → in_view who n (x ∷ []) i ≡ true → is_covered who processes n x (left ps x) i ≡ (beyond i || in_view who n ps i)) →
+      ((ps : List ℕ) (x i : ℕ) → has xs x ≡ true → in_view who n (x ∷ []) i ≡ true → is_covered who processes n x (left ps x) i
+      ≡ (beyond i || in_view who n ps i)) →
       (k : ℕ) → k ≤ length xs →
       walk d.step q (subword w (known_within beyond (take k xs)) n)
       ≡ in_turn (λ i. λ q. walk d.step q (residue_word loc processes w n (slice_index xs i) (left (take i xs) (slice_index xs i)))) k q
-  compose-first beyond left xs q small covers zero m = ap (walk d.step q) (subword-none w (known_within beyond []) n (λ i k. and_left (in_view who n [] i) (not (beyond i)) (nothing i)))
+  compose-first beyond left xs q small covers zero m =
+      ap (walk d.step q) (subword-none w (known_within beyond []) n (λ i k. and_left (in_view who n [] i) (not (beyond i)) (nothing i)))
     where
       nothing : (i : ℕ) → in_view who n [] i ≡ false
       nothing i = elim (cases_Bool (in_view who n [] i)) [
@@ -108,7 +112,8 @@ module _ (loc : ℕ → List ℕ) (processes : ℕ) (d : Automaton) (alphabet : 
   -- and all of them
   pub compose-all : (xs : List ℕ) (set : ℕ → Bool) (q : ℕ) → q < d.states → ((y : ℕ) → has xs y ≡ true → y < processes) → list_any set xs ≡ false →
       walk d.step q (subword w (known_within (is_beyond who processes n xs set) xs) n)
-      ≡ in_turn (λ i. λ q. walk d.step q (residue_word loc processes w n (slice_index xs i) (omitted who processes n xs set (take i xs) (slice_index xs i)))) (length xs) q
+      ≡ in_turn (λ i. λ q. walk d.step q (residue_word loc processes w n (slice_index xs i) (omitted who processes n xs set (take i xs) (slice_index xs i))))
+      (length xs) q
   compose-all xs set q small bound apart =
       ap (λ v. walk d.step q (subword w (known_within (is_beyond who processes n xs set) v) n)) (sym (take-length xs))
       ∙ compose-first (is_beyond who processes n xs set) (omitted who processes n xs set) xs q small
@@ -125,9 +130,11 @@ residues_decide loc processes d w q alphabet total diamonds word small =
     let beyond = is_beyond who processes n range none in
     let empty : (i : ℕ) → beyond i ≡ false = λ i. elim (cases_Bool (beyond i)) [
       | inr f ↦ f
-      | inl t ↦ let r = any-where (λ r. none r && option_map_or (λ e. in_past who e i) (primary who n (best who processes n range r) r) false) range t in let z : false ≡ true = r.2 in cc
+      | inl t ↦ let r = any-where (λ r. none r && option_map_or (λ e. in_past who e i) (primary who n (best who processes n range r) r) false) range t in
+          let z : false ≡ true = r.2 in cc
     ] in
-    sym (compose-all loc processes d alphabet total diamonds w over n (omega arith) range none q small (λ y h. range-below processes y h) (any-none none processes (λ k l. refl)))
+    sym (compose-all loc processes d alphabet total diamonds w over n (omega arith) range none q small (λ y h. range-below processes y h)
+    (any-none none processes (λ k l. refl)))
     ∙ ap (walk d.step q)
     (subword-all w (λ i. in_view who n range i && not (beyond i)) n (omega arith)
     (λ i k.

@@ -12,4 +12,7 @@ pub mod Omitted
 pub mod Written
 pub mod AfterWords
 pub mod Nobody
+pub mod SetNumbers
+pub mod Halves
+pub mod LeftOut
 mod FirstEvents

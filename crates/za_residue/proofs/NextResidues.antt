@@ -1,10 +1,12 @@
 -- What an event does to the residues.
-use Rattle.std.proofs.Common.{◌≡◌, ℕ, suc, ◌<◌, Bool, true, false, not, ◌&&◌, ◌||◌, ◌==◌, inl, inr, List, [], ◌∷◌, ◌++◌, length, slice_index, Option, Some, None, refl, sym, ap, ◌∙◌, arith}
+use Rattle.std.proofs.Common.{◌≡◌, ℕ, suc, ◌<◌, Bool, true, false, not, ◌&&◌, ◌||◌, ◌==◌, inl, inr, List, [], ◌∷◌, ◌++◌, length, slice_index, Option, Some}
+use Rattle.std.proofs.Common.{None, refl, sym, ap, ◌∙◌, arith}
 use Rattle.std.specs.List.{range_with_len, list_any, list_all}
 use Rattle.std.specs.Option.{option_map_or}
 use Rattle.std.proofs.Math.Path.{fun_ext}
 use Rattle.std.proofs.lemmas.Bool.{cases_Bool, and_from, and_left, and_right, and_parts, cond-false, not_from_true, not_from_false}
-use Rattle.za_alpha.specs.Words.{has, meets, least, IsAlphabet, IsWord}
+use Rattle.za_alpha.specs.Words.{has, meets, IsAlphabet, IsWord}
+use Rattle.za_alpha.specs.Search.{least}
 use Rattle.za_alpha.proofs.Swaps.{meets-elim}
 use Rattle.za_order.specs.Views.{participants, in_view, in_past}
 use Rattle.za_order.specs.Entries.{primary}
@@ -49,7 +51,8 @@ passes-same s t None h = refl
 passes-same s t (Some e) h = h e refl
 
 -- residues look at the first n events alone
-pub residue-same : (who who' : ℕ → List ℕ) (processes n p : ℕ) (set : ℕ → Bool) (i : ℕ) → ((j : ℕ) → j < n → who j ≡ who' j) → in_residue who processes n p set i ≡ in_residue who' processes n p set i
+pub residue-same : (who who' : ℕ → List ℕ) (processes n p : ℕ) (set : ℕ → Bool) (i : ℕ) → ((j : ℕ) → j < n → who j ≡ who' j) →
+    in_residue who processes n p set i ≡ in_residue who' processes n p set i
 residue-same who who' processes n p set i h =
     let covered : is_covered who processes n p set i ≡ is_covered who' processes n p set i =
     ap (λ t. list_any t (range_with_len 0 processes)) (fun_ext (λ y. ap (λ x. set y && x)
@@ -59,7 +62,8 @@ residue-same who who' processes n p set i h =
     ap (λ x. x && not (is_covered who processes n p set i)) (view-same who who' n (p ∷ []) i h) ∙ ap (λ x. in_view who' n (p ∷ []) i && not x) covered
 
 -- so does who has the latest news, and what is beyond
-best-same : (who who' : ℕ → List ℕ) (processes n : ℕ) (xs : List ℕ) (r : ℕ) → ((j : ℕ) → j < n → who j ≡ who' j) → best who processes n xs r ≡ best who' processes n xs r
+best-same : (who who' : ℕ → List ℕ) (processes n : ℕ) (xs : List ℕ) (r : ℕ) → ((j : ℕ) → j < n → who j ≡ who' j) → best who processes n xs r
+    ≡ best who' processes n xs r
 best-same who who' processes n xs r h =
     ap (λ t. least t processes) (fun_ext (λ x. ap (λ t. has xs x && list_all t xs) (fun_ext (λ y.
     ap (λ f. option_map_or f (primary who n y r) true) (fun_ext (λ e. view-same who who' n (x ∷ []) e h))
@@ -95,7 +99,8 @@ module _ (loc : ℕ → List ℕ) (letters processes : ℕ) (w : List ℕ) (over
 
   -- any other set leaves what the participants knew without what is beyond, and the event
   parts-left : (set : ℕ → Bool) → has (who n) p ≡ true → list_any set (who n) ≡ false →
-      residue_word loc processes w (suc n) p set ≡ subword w (λ i. in_view who n (who n) i && not (is_beyond who processes n (who n) set i)) n ++ slice_index w n ∷ []
+      residue_word loc processes w (suc n) p set ≡ subword w (λ i. in_view who n (who n) i && not (is_beyond who processes n (who n) set i))
+      n ++ slice_index w n ∷ []
   parts-left set a h =
       let xs : List ℕ = who n in
       let beyond : ℕ → Bool = is_beyond who processes n xs set in
@@ -138,14 +143,16 @@ module _ (loc : ℕ → List ℕ) (letters processes : ℕ) (w : List ℕ) (over
       ap (λ v. v && not (is_covered who processes (suc n) p set i)) (kept-view who n p i a)
       ∙ ap (λ f. in_view who n (p ∷ []) i && not (list_any f (range_with_len 0 processes)))
       (fun_ext (λ y. ap (λ o. set y && option_map_or (λ e. in_past who e i) o false) (primary_kept who n p y a))) in
-      let out : test n ≡ false = same n ∙ and_left (in_view who n (p ∷ []) n) (not (is_covered who processes n p set n)) (elim (cases_Bool (in_view who n (p ∷ []) n)) [
+      let out : test n ≡ false = same n ∙ and_left (in_view who n (p ∷ []) n) (not (is_covered who processes n p set n))
+      (elim (cases_Bool (in_view who n (p ∷ []) n)) [
         | inr f ↦ f
         | inl v ↦ let b = view-below who n (p ∷ []) n v in absurd (omega arith)
       ]) in
       subword-skips w test n out ∙ subword-same w w test (in_residue who processes n p set) n (λ i k. refl) (λ i k. same i)
 
 -- after a word, by an event of the letter a
-module _ (loc : ℕ → List ℕ) (letters processes : ℕ) (w : List ℕ) (a : ℕ) (alphabet : IsAlphabet loc letters processes) (word : IsWord letters w) (small : a < letters) where
+module _ (loc : ℕ → List ℕ) (letters processes : ℕ) (w : List ℕ) (a : ℕ) (alphabet : IsAlphabet loc letters processes) (word : IsWord letters w)
+    (small : a < letters) where
   abbrev wa : List ℕ
   wa = w ++ a ∷ []
 
@@ -164,20 +171,24 @@ module _ (loc : ℕ → List ℕ) (letters processes : ℕ) (w : List ℕ) (a : 
       nothing-left loc letters processes wa over-next (length w) (omega (arith, length-next w a)) p set (at-seam loc w a p ∙ h)
       (ap (λ v. list_any set (loc v)) (seam w a) ∙ t)
 
-  pub kept-next : (p : ℕ) (set : ℕ → Bool) → has (loc a) p ≡ false → residue_word loc processes wa (suc (length w)) p set ≡ residue_word loc processes w (length w) p set
-  kept-next p set h = all-kept loc letters processes wa over-next (length w) (omega (arith, length-next w a)) p set (at-seam loc w a p ∙ h) ∙ residue-before p set
+  pub kept-next : (p : ℕ) (set : ℕ → Bool) → has (loc a) p ≡ false → residue_word loc processes wa (suc (length w)) p set
+      ≡ residue_word loc processes w (length w) p set
+  kept-next p set h = all-kept loc letters processes wa over-next (length w) (omega (arith, length-next w a)) p set (at-seam loc w a p ∙ h)
+      ∙ residue-before p set
 
   -- what the participants knew without what is beyond, and the event
   pub parts-next : (p : ℕ) (set : ℕ → Bool) → has (loc a) p ≡ true → list_any set (loc a) ≡ false →
       residue_word loc processes wa (suc (length w)) p set
-      ≡ subword w (λ i. in_view (participants loc w) (length w) (loc a) i && not (is_beyond (participants loc w) processes (length w) (loc a) set i)) (length w) ++ a ∷ []
+      ≡ subword w (λ i. in_view (participants loc w) (length w) (loc a) i && not (is_beyond (participants loc w) processes (length w) (loc a) set i))
+      (length w) ++ a ∷ []
   parts-next p set h f =
       let n : ℕ = length w in
       let who = participants loc wa in
       let who' = participants loc w in
       let agree : (j : ℕ) → j < n → who j ≡ who' j = λ j m. ap loc (agrees w a j m) in
       let known = λ (who : ℕ → List ℕ) (xs : List ℕ) (i : ℕ). in_view who n xs i && not (is_beyond who processes n xs set i) in
-      parts-left loc letters processes wa over-next n (omega (arith, length-next w a)) p set (at-seam loc w a p ∙ h) (ap (λ v. list_any set (loc v)) (seam w a) ∙ f)
+      parts-left loc letters processes wa over-next n (omega (arith, length-next w a)) p set (at-seam loc w a p ∙ h) (ap (λ v. list_any set (loc v)) (seam w a)
+      ∙ f)
       ∙ ap (λ v. subword wa (known who (loc v)) n ++ v ∷ []) (seam w a)
       ∙ ap (λ v. v ++ a ∷ [])
       (subword-same wa w (known who (loc a)) (known who' (loc a)) n (agrees w a)

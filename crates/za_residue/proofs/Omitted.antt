@@ -6,10 +6,11 @@ use Rattle.za_alpha.specs.declared.procs.Procs.{Procs}
 use Rattle.za_alpha.specs.Words.{has}
 use Rattle.za_alpha.specs.Procs.{members, no_process}
 use Rattle.za_residue.specs.declared.masks.Masks.{Masks}
-use Rattle.za_residue.specs.Turns.{is_omitted, AreOmitted}
+use Rattle.za_residue.specs.Private.Turns.{is_omitted, AreOmitted}
 
 -- one input more
-pub omitted-more : (masks : Masks) (processes : ℕ) (set : ℕ → Bool) (i : ℕ) (sets : List Procs) (more : Procs) → AreOmitted masks processes set i sets → i < length sets →
+pub omitted-more : (masks : Masks) (processes : ℕ) (set : ℕ → Bool) (i : ℕ) (sets : List Procs) (more : Procs) → AreOmitted masks processes set i sets →
+    i < length sets →
     more.0 < 2 ^ 16 → ((s : ℕ) → has (members more) s ≡ is_omitted masks processes set i s) → AreOmitted masks processes set (i + 1) (slice_set sets i more)
 omitted-more masks processes set i sets more k l small is =
     let long = length-set sets i more in
@@ -17,11 +18,13 @@ omitted-more masks processes set i sets more k l small is =
     record {
       room = omega arith;
       small = λ j lj. elim (cases_eq j i) [
-        | inl e ↦ let P : ℕ → Type 0 = λ j. (get_or (slice_set sets i more) j no_process).0 < 2 ^ 16 in subst P (sym e) (let Q : Procs → Type 0 = λ s. s.0 < 2 ^ 16 in subst Q (sym here) small)
+        | inl e ↦ let P : ℕ → Type 0 = λ j. (get_or (slice_set sets i more) j no_process).0 < 2 ^ 16 in
+            subst P (sym e) (let Q : Procs → Type 0 = λ s. s.0 < 2 ^ 16 in subst Q (sym here) small)
         | inr ne ↦ let Q : Procs → Type 0 = λ s. s.0 < 2 ^ 16 in subst Q (sym (get_or-set_other sets i j more no_process ne)) (k.small j (omega arith))
       ];
       members = λ j s lj. elim (cases_eq j i) [
-        | inl e ↦ ap (λ j. has (members (get_or (slice_set sets i more) j no_process)) s) e ∙ ap (λ o. has (members o) s) here ∙ is s ∙ ap (λ j. is_omitted masks processes set j s) (sym e)
+        | inl e ↦ ap (λ j. has (members (get_or (slice_set sets i more) j no_process)) s) e ∙ ap (λ o. has (members o) s) here ∙ is s
+            ∙ ap (λ j. is_omitted masks processes set j s) (sym e)
         | inr ne ↦ ap (λ o. has (members o) s) (get_or-set_other sets i j more no_process ne) ∙ k.members j s (omega arith)
       ];
     }

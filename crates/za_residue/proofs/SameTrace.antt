@@ -1,5 +1,6 @@
 -- Equivalent words have equivalent residue words.
-use Rattle.std.proofs.Common.{◌≡◌, ℕ, zero, suc, ◌+◌, ◌<◌, ◌≤◌, Bool, true, false, not, ◌&&◌, inl, inr, List, [], ◌∷◌, ◌++◌, length, slice_index, refl, sym, ap, subst, ◌∙◌, arith}
+use Rattle.std.proofs.Common.{◌≡◌, ℕ, zero, suc, ◌+◌, ◌<◌, ◌≤◌, Bool, true, false, not, ◌&&◌, inl, inr, List, [], ◌∷◌, ◌++◌, length, slice_index, refl, sym, ap}
+use Rattle.std.proofs.Common.{subst, ◌∙◌, arith}
 use Rattle.std.specs.List.{range_with_len, list_any}
 use Rattle.std.specs.Option.{option_map_or}
 use Rattle.std.proofs.Math.Path.{fun_ext}
@@ -31,12 +32,14 @@ module _ (loc : ℕ → List ℕ) (p : ℕ) (u v : List ℕ) (same : projection 
   own a = has (loc a) p
 
   -- both take part in an event, or neither
-  picked-both : (n m : ℕ) → n < length u → m < length v → has (participants loc u n) p ≡ true → has (participants loc v m) p ≡ true → rank own u n ≡ rank own v m →
+  picked-both : (n m : ℕ) → n < length u → m < length v → has (participants loc u n) p ≡ true → has (participants loc v m) p ≡ true → rank own u n
+      ≡ rank own v m →
       projection loc p (subword u s n) ≡ projection loc p (subword v t m) → projection loc p (subword u s (suc n)) ≡ projection loc p (subword v t (suc m))
   picked-both n m ln lm hn hm e rest =
       let test = agree n m ln lm hn hm e in
       let letter : slice_index u n ≡ slice_index v m =
-      sym (rank-read own u n ln hn).1 ∙ ap (λ x. slice_index x (rank own u n)) same ∙ ap (λ r. slice_index (projection loc p v) r) e ∙ (rank-read own v m lm hm).1 in
+      sym (rank-read own u n ln hn).1 ∙ ap (λ x. slice_index x (rank own u n)) same ∙ ap (λ r. slice_index (projection loc p v) r) e
+      ∙ (rank-read own v m lm hm).1 in
       elim (cases_Bool (s n)) [
         | inl y ↦
             projection-takes loc u p s n y hn ∙ ap (λ x. x ++ slice_index u n ∷ []) rest ∙ ap (λ a. projection loc p (subword v t m) ++ a ∷ []) letter
@@ -45,7 +48,8 @@ module _ (loc : ℕ → List ℕ) (p : ℕ) (u v : List ℕ) (same : projection 
       ]
 
   -- below positions of one rank
-  picked : (b n m : ℕ) → n + m ≤ b → n ≤ length u → m ≤ length v → rank own u n ≡ rank own v m → projection loc p (subword u s n) ≡ projection loc p (subword v t m)
+  picked : (b n m : ℕ) → n + m ≤ b → n ≤ length u → m ≤ length v → rank own u n ≡ rank own v m → projection loc p (subword u s n)
+      ≡ projection loc p (subword v t m)
   picked b zero zero h ln lm e = refl
   picked zero zero (suc m) h ln lm e = absurd (omega arith)
   picked zero (suc n) m h ln lm e = absurd (omega arith)
@@ -74,7 +78,8 @@ module _ (loc : ℕ → List ℕ) (p : ℕ) (u v : List ℕ) (same : projection 
 
 module _ (loc : ℕ → List ℕ) where
   -- events of one rank among those of p match
-  rank-pair : (u v : List ℕ) (p i j : ℕ) → AreEquivalent loc u v → i < length u → j < length v → has (participants loc u i) p ≡ true → has (participants loc v j) p ≡ true →
+  rank-pair : (u v : List ℕ) (p i j : ℕ) → AreEquivalent loc u v → i < length u → j < length v → has (participants loc u i) p ≡ true →
+      has (participants loc v j) p ≡ true →
       rank (λ a. has (loc a) p) u i ≡ rank (λ a. has (loc a) p) v j → IsPair u v i j
   rank-pair u v p i j e li lj hi hj r =
       let own : ℕ → Bool = λ a. has (loc a) p in
@@ -124,6 +129,8 @@ residue_words_agree loc processes u v p set e k =
 pub residues_agree : ResiduesAgree
 residues_agree loc processes d u v p set q alphabet total diamonds wu wv small e =
     let word = λ (w : List ℕ) (h : IsWord d.letters w).
-    subword-word loc d.letters processes w (word-over loc d.letters processes w alphabet h) (in_residue (participants loc w) processes (length w) p set) (length w) (omega arith) in
-    diamonds_keep_the_state loc processes d q (residue_word loc processes u (length u) p set) (residue_word loc processes v (length v) p set) alphabet total diamonds small
+    subword-word loc d.letters processes w (word-over loc d.letters processes w alphabet h) (in_residue (participants loc w) processes (length w) p set)
+    (length w) (omega arith) in
+    diamonds_keep_the_state loc processes d q (residue_word loc processes u (length u) p set) (residue_word loc processes v (length v) p set)
+    alphabet total diamonds small
     (word u wu) (word v wv) (residue_words_agree loc processes u v p set e)

@@ -1,5 +1,6 @@
 -- Entries that stand in a row.
-use Rattle.std.proofs.Common.{◌≡◌, ℕ, ◌+◌, ◌<◌, ◌==◌, Bool, true, false, not, ◌&&◌, ◌||◌, inl, inr, List, [], ◌∷◌, length, slice_index, refl, sym, ap, ◌∙◌, arith, eq-eqb, ne_eqb}
+use Rattle.std.proofs.Common.{◌≡◌, ℕ, ◌+◌, ◌<◌, ◌==◌, Bool, true, false, not, ◌&&◌, ◌||◌, inl, inr, List, [], ◌∷◌, length, slice_index, refl, sym, ap, ◌∙◌}
+use Rattle.std.proofs.Common.{arith, eq-eqb, ne_eqb}
 use Rattle.std.specs.Prelude.{nat_lt}
 use Rattle.std.specs.List.{list_any}
 use Rattle.std.proofs.lemmas.Bool.{cases_order, or_left, and_from, and_right}
@@ -24,7 +25,8 @@ module _ (primary other : List ℕ) (s : ℕ) (here : s < length primary) where
       ap (λ b. (b && not (slice_index primary s == 0)) && has other (slice_index primary s)) low
 
   -- the first s entries, and one more where it is shared
-  pub shared-in : (k : ℕ) (before : Bool) → before ≡ (nat_lt k s && is_shared primary other k) → test ≡ true → (k == s || before) ≡ (nat_lt k (s + 1) && is_shared primary other k)
+  pub shared-in : (k : ℕ) (before : Bool) → before ≡ (nat_lt k s && is_shared primary other k) → test ≡ true → (k == s || before)
+      ≡ (nat_lt k (s + 1) && is_shared primary other k)
   shared-in k before h t =
       ap (λ b. k == s || b) h ∙ elim (cases_order k s) [
         | inl e ↦
@@ -34,15 +36,18 @@ module _ (primary other : List ℕ) (s : ℕ) (here : s < length primary) where
         | inr (inl lt) ↦
             let a : nat_lt k s ≡ true = grind (arith, nat_tests) in
             let b : nat_lt k (s + 1) ≡ true = grind (arith, nat_tests) in
-            ap (λ e. e || (nat_lt k s && is_shared primary other k)) (ne_eqb k s (λ e. absurd (omega arith))) ∙ ap (λ v. v && is_shared primary other k) (a ∙ sym b)
+            ap (λ e. e || (nat_lt k s && is_shared primary other k)) (ne_eqb k s (λ e. absurd (omega arith))) ∙ ap (λ v. v && is_shared primary other k)
+            (a ∙ sym b)
         | inr (inr gt) ↦
             let a : nat_lt k s ≡ false = grind (arith, nat_tests) in
             let b : nat_lt k (s + 1) ≡ false = grind (arith, nat_tests) in
-            ap (λ e. e || (nat_lt k s && is_shared primary other k)) (ne_eqb k s (λ e. absurd (omega arith))) ∙ ap (λ v. v && is_shared primary other k) (a ∙ sym b)
+            ap (λ e. e || (nat_lt k s && is_shared primary other k)) (ne_eqb k s (λ e. absurd (omega arith))) ∙ ap (λ v. v && is_shared primary other k)
+            (a ∙ sym b)
       ]
 
   -- and where it is not
-  pub shared-out : (k : ℕ) (before : Bool) → before ≡ (nat_lt k s && is_shared primary other k) → test ≡ false → before ≡ (nat_lt k (s + 1) && is_shared primary other k)
+  pub shared-out : (k : ℕ) (before : Bool) → before ≡ (nat_lt k s && is_shared primary other k) → test ≡ false → before
+      ≡ (nat_lt k (s + 1) && is_shared primary other k)
   shared-out k before h t =
       h ∙ elim (cases_order k s) [
         | inl e ↦

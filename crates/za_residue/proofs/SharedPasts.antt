@@ -36,7 +36,8 @@ module _ (who : ℕ → List ℕ) (n : ℕ) where
     pub of_other : primary who n other process ≡ Some event
 
   -- what x and one of ps know is in the past of such an event
-  pub earlier-complete : (ps : List ℕ) (x i : ℕ) → in_view who n (x ∷ []) i ≡ true → in_view who n ps i ≡ true → (s : ℕ) × (e : IsEarlier ps x s) × Chain who i e.event
+  pub earlier-complete : (ps : List ℕ) (x i : ℕ) → in_view who n (x ∷ []) i ≡ true → in_view who n ps i ≡ true → (s : ℕ) × (e : IsEarlier ps x s)
+      × Chain who i e.event
   earlier-complete ps x i vx vp =
       let y = view-of ps i vp in
       let r = view-process who n (x ∷ []) i vx in
@@ -44,7 +45,15 @@ module _ (who : ℕ → List ℕ) (n : ℕ) where
       let a = maximal-primary who n x y.0 t.0 t.2 in
       let b = maximal-primary who n y.0 x t.0 (record { one = t.2.two; two = t.2.one; alone = λ g u v c. t.2.alone g v u c }) in (
         b.0,
-        record { event = t.0; other = y.0; process = a.0; of_one = primary-complete who n x b.0 t.0 b.1; among = y.1; of_other = primary-complete who n y.0 a.0 t.0 a.1 },
+        record {
+          event = t.0;
+          other = y.0;
+          process = a.0;
+          of_one = primary-complete who n x b.0 t.0 b.1;
+          among = y.1;
+          of_other =
+              primary-complete who n y.0 a.0 t.0 a.1;
+        },
         t.1,
       )
 
@@ -90,7 +99,8 @@ module _ (who : ℕ → List ℕ) (n : ℕ) where
       ]
 
   -- what x knows of that past is in the past of such an event, where b has the latest news of r
-  pub under-complete : (xs : List ℕ) (b x r g i : ℕ) → IsNewest who n xs r b → has xs x ≡ true → primary who n b r ≡ Some g → in_view who n (x ∷ []) i ≡ true → Chain who i g →
+  pub under-complete : (xs : List ℕ) (b x r g i : ℕ) → IsNewest who n xs r b → has xs x ≡ true → primary who n b r ≡ Some g → in_view who n (x ∷ []) i ≡ true →
+      Chain who i g →
       (s : ℕ) × (u : IsUnder b x r s) × Chain who i u.event
   under-complete xs b x r g i k hx h v c =
       let lg = primary-sound who n b r g h in
@@ -106,7 +116,8 @@ module _ (who : ℕ → List ℕ) (n : ℕ) where
             let gb = view-below who n (b ∷ []) g lg.known in
             let q = view-process who n (x ∷ []) i v in
             let below : (j : ℕ) → in_past who g j ≡ true → j < n = λ j u. let l = chain-le who (past-sound who g j u) in omega arith in
-            let down : (j l : ℕ) → in_past who g l ≡ true → Chain who j l → in_past who g j ≡ true = λ j l u d. past-complete who g j r lg.takes (chain-trans who d (past-sound who g l u)) in
+            let down : (j l : ℕ) → in_past who g l ≡ true → Chain who j l → in_past who g j
+            ≡ true = λ j l u d. past-complete who g j r lg.takes (chain-trans who d (past-sound who g l u)) in
             let t = maximal-above who (λ j. in_view who n (x ∷ []) j) (λ j. in_past who g j) n i q.0 below q.1 v (past-complete who g i r lg.takes c) in
             let top = t.2 in
             let cf = past-sound who g t.0 top.two in

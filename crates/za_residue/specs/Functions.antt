@@ -1,8 +1,7 @@
 -- Functions on the states of an automaton, one for each set of processes.
-use Rattle.std.specs.Prelude.{◌≡◌, ℕ, ◌+◌, ◌*◌, ◌/◌, ◌%◌, ◌^◌, ◌<◌, ◌≤◌, Bool, List, [], All, map, length, slice_index}
+use Rattle.std.specs.Prelude.{ℕ, ◌+◌, ◌*◌, ◌/◌, ◌%◌, ◌^◌, ◌==◌, Bool, List, map, slice_index}
 use Rattle.std.specs.List.{range_with_len}
-use Rattle.za_alpha.specs.Words.{has}
-use Rattle.za_alpha.specs.Procs.{members}
+use Rattle.std.specs.Int.{bit_at}
 
 -- what contracts see of them: entry number * states + q says where the function of the set with that number leads
 -- from the state q
@@ -27,17 +26,6 @@ identities processes states = functions_by processes states (λ number q. q)
 abbrev pub value_at : Functions → ℕ → ℕ → ℕ
 value_at f number q = slice_index f.values (number * f.states + q)
 
--- no functions
-abbrev pub no_functions : Functions
-no_functions = record { processes = 0; states = 0; values = [] }
-
 -- whether the process is in the set with the number: the sum of 2 ^ y over its members
 abbrev pub in_set : ℕ → ℕ → Bool
-in_set number p = has (members (record { 0 = number })) p
-
--- what holds of all: there are few processes and states, a function for each set, and each leads to states
-pub record AreOnStates (f : Functions) : Type 0 where
-  pub few_processes : f.processes ≤ 16
-  pub few_states : f.states ≤ 256
-  pub values_length : length f.values ≡ 2 ^ f.processes * f.states
-  pub values_below : All (λ value. value < f.states) f.values
+in_set number p = bit_at number p == 1

@@ -2,5 +2,5 @@ pub mod Functions
 pub mod Residues
 pub mod Masks
 pub mod Inside
-pub mod Turns
 pub mod Laws
+pub mod Private

@@ -1,11 +1,11 @@
 //! Laws over the definitions alone.
 
-ghost use Rattle.za_residue.specs.Laws.{ParticipantsCompose, ParticipantsReset, OthersKeepResidues, ResiduesDecide, ResidueWordsAgree, ResiduesAgree};
+ghost use Rattle.za_residue.specs.Laws.{ParticipantsCompose, ParticipantsReset, OthersKeepResidues, ResiduesDecide};
+ghost use Rattle.za_residue.specs.Laws.{ResidueWordsAgree, ResiduesAgree};
 
 /// After an event the residues of its participants are theirs before it, in turn, followed by the
 /// event; for a set with a participant nothing is left. All other processes keep theirs (Mukund
 /// 2012).
-#[tactic(auto, using(crate::proofs::NextResidues::participants_compose, crate::proofs::NextResidues::participants_reset, crate::proofs::NextResidues::others_keep_residues))]
 pub fn residues_after_an_event()
     ensures compose { ParticipantsCompose }
     ensures reset { ParticipantsReset }

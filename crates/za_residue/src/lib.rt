@@ -4,10 +4,12 @@
 
 mod composing;
 mod laws;
+mod leaving;
 mod masks;
 mod residues;
 #[cfg(test)]
 mod tests;
+mod writing;
 
 pub use composing::{advance, join_all};
 pub use laws::{

@@ -1,5 +1,5 @@
-ghost use Rattle.std.specs.Prelude.{◌≡◌, ℕ, ◌^◌, ◌<◌, ◌≤◌, ◌↔◌, [], IfOk, IsTrue};
-ghost use Rattle.za_dfa.specs.Tables.{CompleteDfa};
+ghost use Rattle.std.specs.Prelude.{◌≡◌, ℕ, ◌^◌, ◌<◌, ◌≤◌, ◌↔◌, List, [], length, slice_index, IfOk, IsTrue};
+ghost use Rattle.za_dfa.specs.Automata.{Automaton};
 ghost use Rattle.za_residue.specs.Functions.{identities, value_at};
 ghost use Rattle.za_residue.specs.Residues.{residues_after};
 
@@ -38,7 +38,8 @@ impl Residues {
         requires processes { n ≤ 16 }
         requires states { states ≤ 256 }
         ensures functions { IfOk result (λ r. r ≡ identities n states) }
-        ensures opening { IfOk result (λ r. (d : CompleteDfa) (p : ℕ) → d.alphabet.processes ≡ n → d.states ≡ states → r ≡ residues_after d [] p) }
+        ensures opening { IfOk result (λ r. (loc : ℕ → List ℕ) (d : Automaton) (p : ℕ) → d.states ≡ states →
+            r ≡ residues_after loc n d [] p) }
     {
         let total = set_count(n) * states;
         let mut values = Vec::with_capacity(alloc, total)?;
@@ -74,6 +75,17 @@ impl Residues {
         ensures within { result < self.now.states }
     {
         self.values[set.0 as usize * self.states + q as usize]
+    }
+
+    /// The function of a set, by state.
+    pub(crate) fn function(&self, set: Procs) -> &[u8]
+        requires { set.0 < 2 ^ self.now.processes }
+        ensures long { length result.now ≡ self.now.states }
+        ensures values { (q : ℕ) → q < self.now.states → slice_index result.now q ≡ value_at self.now set.0 q }
+        ensures below { (q : ℕ) → q < self.now.states → slice_index result.now q < self.now.states }
+    {
+        let from = set.0 as usize * self.states;
+        &self.values[from..from + self.states]
     }
 
     /// Whether the functions of another process, for as many processes and states, are the same.

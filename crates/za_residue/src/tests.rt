@@ -3,7 +3,7 @@ ghost use Rattle.std.specs.List.{range_with_len};
 ghost use Rattle.za_alpha.specs.Words.{has};
 ghost use Rattle.za_alpha.specs.Procs.{members_below};
 ghost use Rattle.za_alpha.specs.Alphabet.{loc_of};
-ghost use Rattle.za_residue.specs.Residues.{residues_after};
+ghost use Rattle.za_residue.specs.Residues.{table_residues};
 
 use super::*;
 use std::alloc::{AllocError, Global};
@@ -21,7 +21,8 @@ const NOTHING: Masks = Masks {
 
 /// What the participants of a letter keep before any event.
 fn blanks(alloc: Global, closed: &Closed, participants: Procs) -> Result<Vec<Residues>, OutOfMemory>
-    ensures { IfOk result (λ rs. rs.items ≡ map (residues_after closed.now []) (members_below participants closed.now.alphabet.processes)) }
+    ensures { IfOk result (λ rs. rs.items
+        ≡ map (table_residues closed.now []) (members_below participants closed.now.alphabet.processes)) }
 {
     let processes = closed.dfa().alphabet().processes();
     let states = closed.dfa().states();
@@ -37,7 +38,8 @@ fn blanks(alloc: Global, closed: &Closed, participants: Procs) -> Result<Vec<Res
 /// What the participants of a letter keep after their event, as the first of all.
 fn first_event(alloc: Global, closed: &Closed, a: Letter) -> Result<Residues, OutOfMemory>
     requires { a.0 < length closed.now.alphabet.letters }
-    ensures { IfOk result (λ r. (x : ℕ) → IsTrue (has (loc_of closed.now.alphabet a.0) x) → r ≡ residues_after closed.now (a.0 ∷ []) x) }
+    ensures { IfOk result (λ r. (x : ℕ) →
+        IsTrue (has (loc_of closed.now.alphabet a.0) x) → r ≡ table_residues closed.now (a.0 ∷ []) x) }
 {
     let processes = closed.dfa().alphabet().processes();
     let inputs = blanks(alloc, closed, closed.dfa().alphabet().loc(a))?;
@@ -48,7 +50,8 @@ fn first_event(alloc: Global, closed: &Closed, a: Letter) -> Result<Residues, Ou
 
 /// What all processes keep before any event.
 fn all_blanks(alloc: Global, closed: &Closed) -> Result<Vec<Residues>, OutOfMemory>
-    ensures { IfOk result (λ rs. rs.items ≡ map (residues_after closed.now []) (range_with_len 0 closed.now.alphabet.processes)) }
+    ensures { IfOk result (λ rs. rs.items
+        ≡ map (table_residues closed.now []) (range_with_len 0 closed.now.alphabet.processes)) }
 {
     let processes = closed.dfa().alphabet().processes();
     let states = closed.dfa().states();

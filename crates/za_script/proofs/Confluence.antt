@@ -3,7 +3,8 @@ use Rattle.std.proofs.Common.{◌≡◌, ℕ, zero, suc, ◌+◌, ◌<◌, ◌�
 use Rattle.std.proofs.Math.Seq.{get_or-append_seam}
 use Rattle.std.proofs.lemmas.Bool.{cases_Bool, cases_lt, cases_eq, and_parts, and_from, lt-ltb}
 use Rattle.std.proofs.lemmas.List.Elements.{filter-append, All-head, All-tail, All-nil, All-push}
-use Rattle.za_alpha.specs.Words.{has, IsAlphabet, IsWord, projection, AreEquivalent, least}
+use Rattle.za_alpha.specs.Words.{has, IsAlphabet, IsWord, projection, AreEquivalent}
+use Rattle.za_alpha.specs.Search.{least}
 use Rattle.za_script.specs.Scripts.{comes_next, is_enabled, weave_from, total, weave, Fits, FitsMaximally, Weaves}
 use Rattle.za_alpha.proofs.Swaps.{seen-take, seen-skip, all-right}
 use Rattle.za_script.specs.Laws.{WeaveIsMaximal, MaximalWordsAreOneTrace, WeaveDecides, MaximalWordsWeave}
@@ -152,7 +153,7 @@ module _ (loc : ℕ → List ℕ) (letters : ℕ) (scripts : ℕ → List ℕ) w
       let b = total-le (λ p. projection loc p w) scripts processes (λ p. let k = f.prefix p in let e = ap length (sym k.1) ∙ length-append (projection loc p w) k.0 in omega arith) in
       omega arith
 
-  weave-maximal : (processes : ℕ) (more : ℕ) (w : List ℕ) → IsAlphabet loc letters processes → Fits loc letters scripts w → total scripts processes ≤ length w + more →
+  pub weave-maximal : (processes : ℕ) (more : ℕ) (w : List ℕ) → IsAlphabet loc letters processes → Fits loc letters scripts w → total scripts processes ≤ length w + more →
       FitsMaximally loc letters scripts (weave_from loc letters scripts more w)
   weave-maximal processes zero w al f t =
       record {

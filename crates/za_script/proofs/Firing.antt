@@ -6,7 +6,7 @@ use Rattle.std.proofs.lemmas.List.{get_or-set_same, get_or-set_other}
 use Rattle.za_alpha.specs.declared.procs.Procs.{Procs}
 use Rattle.za_alpha.specs.Words.{has}
 use Rattle.za_script.specs.Scripts.{comes_next}
-use Rattle.za_script.specs.Weaving.{set_at, IsReady}
+use Rattle.za_script.specs.Private.Weaving.{set_at, IsReady}
 
 -- the processes of `marked` are in the sets of their next letters, and no others are in any
 pub record AreMarked (marked : ℕ → Bool) (scripts : ℕ → List ℕ) (places : List ℕ) (sets : List Procs) : Type 0 where

@@ -1,8 +1,10 @@
-mod Lists
+pub mod Lists
 pub mod Confluence
 pub mod Answers
 pub mod Totals
 pub mod LetterLists
 pub mod Firing
 pub mod Standing
+pub mod GoingOn
+pub mod Alike
 mod Examples

@@ -5,12 +5,13 @@ use Rattle.std.proofs.lemmas.Bool.{cases_Bool, cases_lt, lt-ltb, le-ltb, cond-tr
 use Rattle.std.proofs.lemmas.List.{get_or_past}
 use Rattle.std.proofs.lemmas.List.Elements.{All-nil, filter-append}
 use Rattle.za_alpha.specs.declared.procs.Procs.{Procs}
-use Rattle.za_alpha.specs.Words.{has, IsAlphabet, projection, least}
+use Rattle.za_alpha.specs.Words.{has, IsAlphabet, projection}
+use Rattle.za_alpha.specs.Search.{least}
 use Rattle.za_alpha.specs.Alphabet.{DistributedAlphabet, loc_of}
 use Rattle.za_alpha.proofs.Swaps.{seen-take, seen-skip}
 use Rattle.za_script.specs.Scripts.{comes_next, is_enabled, weave_from, total, weave, Fits, Weaves}
 use Rattle.za_script.specs.ScriptLists.{script_of, IsLetterOf, FitAlphabet}
-use Rattle.za_script.specs.Weaving.{IsReady, IsGathered, IsLeastGathered, NoneGathered}
+use Rattle.za_script.specs.Private.Weaving.{IsReady, IsGathered, IsLeastGathered, NoneGathered}
 use Rattle.za_alpha.proofs.Least.{least-is, least-none}
 use Rattle.za_script.proofs.Lists.{all-at, all-from}
 use Rattle.za_script.proofs.Confluence.{fits-more, fits-length, empty-fits}
@@ -30,13 +31,13 @@ own-letters alphabet scripts p fit =
 
 module _ (loc : ℕ → List ℕ) (letters : ℕ) (scripts : ℕ → List ℕ) where
   -- the weave ends where no letter is enabled
-  from-end : (more : ℕ) (w : List ℕ) → letters ≤ least (is_enabled loc scripts w) letters → weave_from loc letters scripts more w ≡ w
+  pub from-end : (more : ℕ) (w : List ℕ) → letters ≤ least (is_enabled loc scripts w) letters → weave_from loc letters scripts more w ≡ w
   from-end zero w h = refl
   from-end (suc more) w h =
       let a = least (is_enabled loc scripts w) letters in ap (λ b. elim b [ true ↦ weave_from loc letters scripts more (w ++ a ∷ []) | false ↦ w ]) (le-ltb a letters h)
 
   -- and goes on by the least that is
-  from-step : (more n : ℕ) (w : List ℕ) (a : ℕ) → a ≡ least (is_enabled loc scripts w) letters → a < letters → more ≡ suc n →
+  pub from-step : (more n : ℕ) (w : List ℕ) (a : ℕ) → a ≡ least (is_enabled loc scripts w) letters → a < letters → more ≡ suc n →
       weave_from loc letters scripts more w ≡ weave_from loc letters scripts n (w ++ a ∷ [])
   from-step zero n w a e l m = absurd (omega arith)
   from-step (suc more) n w a e l m =

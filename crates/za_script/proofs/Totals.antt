@@ -3,8 +3,8 @@ use Rattle.std.proofs.Common.{◌≡◌, ◌≢◌, ℕ, zero, suc, ◌<◌, ◌
 use Rattle.std.proofs.lemmas.Bool.{cases_eq}
 use Rattle.std.proofs.lemmas.List.{get_or-replicate, length-replicate}
 use Rattle.za_script.specs.Scripts.{total}
-use Rattle.za_alpha.specs.declared.rows.TheConstants.{MOST_PROCESSES}
-use Rattle.za_script.specs.declared.fault.TheConstants.{MOST_SCRIPT_LETTERS}
+use Rattle.za_alpha.specs.Limits.{most_processes}
+use Rattle.za_script.specs.Limits.{most_script_letters}
 use Rattle.za_script.specs.ScriptLists.{script_of, total_of, AreScripts}
 
 -- scripts of the same lengths have as many letters
@@ -52,7 +52,7 @@ pub total_of-empty : (n : ℕ) → total_of (replicate n []) ≡ 0
 total_of-empty n = total-none (script_of (replicate n [])) (length (replicate n [])) (λ p l. ap length (get_or-replicate n p [] [] (let e = length-replicate {A = List ℕ} n [] in omega (arith, l))))
 
 -- scripts below the limit keep the limits with one letter more
-pub AreScripts-add : (scripts : List (List ℕ)) (p a : ℕ) → p < length scripts → AreScripts scripts → total_of scripts < MOST_SCRIPT_LETTERS → AreScripts (set scripts p (script_of scripts p ++ a ∷ []))
+pub AreScripts-add : (scripts : List (List ℕ)) (p a : ℕ) → p < length scripts → AreScripts scripts → total_of scripts < most_script_letters → AreScripts (set scripts p (script_of scripts p ++ a ∷ []))
 AreScripts-add scripts p a l limits room =
     let some = limits.some_process in
     let few = limits.few_processes in
@@ -61,7 +61,7 @@ AreScripts-add scripts p a l limits room =
     record { some_process = omega arith; few_processes = omega arith; few_letters = omega arith }
 
 -- empty scripts of some processes keep the limits
-pub AreScripts-empty : (n : ℕ) → 0 < n → n ≤ MOST_PROCESSES → AreScripts (replicate n [])
+pub AreScripts-empty : (n : ℕ) → 0 < n → n ≤ most_processes → AreScripts (replicate n [])
 AreScripts-empty n some few =
     let none = total_of-empty n in
     let size = length-replicate {A = List ℕ} n [] in

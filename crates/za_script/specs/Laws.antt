@@ -9,42 +9,51 @@ use Rattle.za_script.specs.Answer.{IsAnswer}
 -- the weave fits the scripts maximally
 abbrev pub WeaveIsMaximal : Type 0
 WeaveIsMaximal =
-    (loc : ℕ → List ℕ) (letters processes : ℕ) (scripts : ℕ → List ℕ) → IsAlphabet loc letters processes → FitsMaximally loc letters scripts (weave loc letters processes scripts)
+    (loc : ℕ → List ℕ) (letters processes : ℕ) (scripts : ℕ → List ℕ) → IsAlphabet loc letters processes →
+    FitsMaximally loc letters scripts (weave loc letters processes scripts)
 
 -- the words that fit the scripts maximally are those that are equivalent to the weave
 abbrev pub MaximalWordsAreOneTrace : Type 0
 MaximalWordsAreOneTrace =
-    (loc : ℕ → List ℕ) (letters processes : ℕ) (scripts : ℕ → List ℕ) (w : List ℕ) → IsAlphabet loc letters processes →
-    (FitsMaximally loc letters scripts w ↔ (IsWord letters w × AreEquivalent loc w (weave loc letters processes scripts)))
+    (loc : ℕ → List ℕ) (letters processes : ℕ) (scripts : ℕ → List ℕ) (w : List ℕ) →
+    IsAlphabet loc letters processes →
+    (FitsMaximally loc letters scripts w ↔
+    (IsWord letters w × AreEquivalent loc w (weave loc letters processes scripts)))
 
 -- if some word weaves the scripts, the weave does
 abbrev pub WeaveDecides : Type 0
 WeaveDecides =
-    (loc : ℕ → List ℕ) (letters processes : ℕ) (scripts : ℕ → List ℕ) (w : List ℕ) → IsAlphabet loc letters processes → Weaves loc letters scripts w →
+    (loc : ℕ → List ℕ) (letters processes : ℕ) (scripts : ℕ → List ℕ) (w : List ℕ) →
+    IsAlphabet loc letters processes → Weaves loc letters scripts w →
     Weaves loc letters scripts (weave loc letters processes scripts)
 
 -- if the weave weaves the scripts, each word that fits them maximally does
 abbrev pub MaximalWordsWeave : Type 0
 MaximalWordsWeave =
-    (loc : ℕ → List ℕ) (letters processes : ℕ) (scripts : ℕ → List ℕ) (w : List ℕ) → IsAlphabet loc letters processes →
-    Weaves loc letters scripts (weave loc letters processes scripts) → FitsMaximally loc letters scripts w → Weaves loc letters scripts w
+    (loc : ℕ → List ℕ) (letters processes : ℕ) (scripts : ℕ → List ℕ) (w : List ℕ) →
+    IsAlphabet loc letters processes →
+    Weaves loc letters scripts (weave loc letters processes scripts) → FitsMaximally loc letters scripts w →
+    Weaves loc letters scripts w
 
 -- the answer is accept exactly if the weave weaves the scripts and is accepted
 abbrev pub AcceptIsOfTheWeave : Type 0
 AcceptIsOfTheWeave =
-    (loc : ℕ → List ℕ) (processes : ℕ) (d : Automaton) (scripts : ℕ → List ℕ) → IsAlphabet loc d.letters processes → IsTraceClosed loc d →
-    (IsAnswer loc d scripts Accept ↔
-    (Weaves loc d.letters scripts (weave loc d.letters processes scripts) × IsTrue (is_accepted d (weave loc d.letters processes scripts))))
+    (loc : ℕ → List ℕ) (processes : ℕ) (d : Automaton) (scripts : ℕ → List ℕ) →
+    IsAlphabet loc d.letters processes → IsTraceClosed loc d →
+    let w = weave loc d.letters processes scripts in
+    (IsAnswer loc d scripts Accept ↔ (Weaves loc d.letters scripts w × IsTrue (is_accepted d w)))
 
 -- the answer is reject exactly if the weave weaves the scripts and is not accepted
 abbrev pub RejectIsOfTheWeave : Type 0
 RejectIsOfTheWeave =
-    (loc : ℕ → List ℕ) (processes : ℕ) (d : Automaton) (scripts : ℕ → List ℕ) → IsAlphabet loc d.letters processes → IsTraceClosed loc d →
-    (IsAnswer loc d scripts Reject ↔
-    (Weaves loc d.letters scripts (weave loc d.letters processes scripts) × IsFalse (is_accepted d (weave loc d.letters processes scripts))))
+    (loc : ℕ → List ℕ) (processes : ℕ) (d : Automaton) (scripts : ℕ → List ℕ) →
+    IsAlphabet loc d.letters processes → IsTraceClosed loc d →
+    let w = weave loc d.letters processes scripts in
+    (IsAnswer loc d scripts Reject ↔ (Weaves loc d.letters scripts w × IsFalse (is_accepted d w)))
 
 -- the answer is stuck exactly if the weave does not weave the scripts
 abbrev pub StuckIsOfTheWeave : Type 0
 StuckIsOfTheWeave =
-    (loc : ℕ → List ℕ) (processes : ℕ) (d : Automaton) (scripts : ℕ → List ℕ) → IsAlphabet loc d.letters processes →
+    (loc : ℕ → List ℕ) (processes : ℕ) (d : Automaton) (scripts : ℕ → List ℕ) →
+    IsAlphabet loc d.letters processes →
     (IsAnswer loc d scripts Stuck ↔ (Weaves loc d.letters scripts (weave loc d.letters processes scripts) → ⊥))

@@ -1,7 +1,9 @@
-pub mod Inside
+pub mod Limits
 pub mod Scripts
 pub mod ScriptLists
-pub mod Weaving
 pub mod Woven
 pub mod Answer
 pub mod Laws
+pub mod Rests
+pub mod RestLaws
+pub mod Private

@@ -1,12 +1,13 @@
 -- What contracts see of scripts: the list of the scripts of all processes, in the order of their numbers.
-use Rattle.std.specs.Prelude.{◌≡◌, ℕ, ◌<◌, ◌≤◌, ◌==◌, not, IsTrue, List, [], length, slice_index_or, All, Option, Some, None, if◌then◌else◌}
-use Rattle.za_alpha.specs.declared.rows.TheConstants.{MOST_PROCESSES}
+use Rattle.std.specs.Prelude.{◌≡◌, ℕ, ◌<◌, ◌≤◌, ◌==◌, not, IsTrue, List}
+use Rattle.std.specs.Prelude.{[], length, slice_index_or, All, Option, Some, None, if◌then◌else◌}
+use Rattle.za_alpha.specs.Limits.{most_processes}
 use Rattle.za_alpha.specs.declared.word.Letter.{Letter}
 use Rattle.za_alpha.specs.Words.{has}
 use Rattle.za_alpha.specs.Alphabet.{DistributedAlphabet, loc_of}
 use Rattle.za_script.specs.declared.fault.ScriptFault.{ScriptFault}
 use Rattle.za_script.specs.declared.fault.ScriptFault.TheVariants.{Foreign, Full}
-use Rattle.za_script.specs.declared.fault.TheConstants.{MOST_SCRIPT_LETTERS}
+use Rattle.za_script.specs.Limits.{most_script_letters}
 use Rattle.za_script.specs.Scripts.{total}
 
 -- the script of a process: empty where there is no such process
@@ -20,8 +21,8 @@ total_of scripts = total (script_of scripts) (length scripts)
 -- what holds of all scripts: the limits
 pub record AreScripts (scripts : List (List ℕ)) : Type 0 where
   pub some_process : 0 < length scripts
-  pub few_processes : length scripts ≤ MOST_PROCESSES
-  pub few_letters : total_of scripts ≤ MOST_SCRIPT_LETTERS
+  pub few_processes : length scripts ≤ most_processes
+  pub few_letters : total_of scripts ≤ most_script_letters
 
 -- a letter of the alphabet of which p is a process
 pub record IsLetterOf (alphabet : DistributedAlphabet) (p a : ℕ) : Type 0 where
@@ -37,4 +38,4 @@ pub record FitAlphabet (alphabet : DistributedAlphabet) (scripts : List (List �
 abbrev pub add_fault : DistributedAlphabet → List (List ℕ) → ℕ → Letter → Option ScriptFault
 add_fault alphabet scripts p a =
     if not (has (loc_of alphabet a.0) p) then Some (Foreign p a)
-    else (if total_of scripts == MOST_SCRIPT_LETTERS then Some Full else None)
+    else (if total_of scripts == most_script_letters then Some Full else None)

@@ -1,8 +1,10 @@
 -- Scripts, and the words that weave them. The script of a process is the word that its projection has to
 -- be; `scripts p` is the script of the process p.
-use Rattle.std.specs.Prelude.{◌≡◌, ℕ, zero, suc, ◌+◌, ◌<◌, Bool, true, false, ◌&&◌, List, [], ◌∷◌, ◌++◌, ◌==◌, IsFalse, nat_lt, slice_index, length}
+use Rattle.std.specs.Prelude.{◌≡◌, ℕ, zero, suc, ◌+◌, ◌<◌, Bool, true, false}
+use Rattle.std.specs.Prelude.{◌&&◌, List, [], ◌∷◌, ◌++◌, ◌==◌, IsFalse, nat_lt, slice_index, length}
 use Rattle.std.specs.List.{list_all}
-use Rattle.za_alpha.specs.Words.{IsWord, projection, least}
+use Rattle.za_alpha.specs.Words.{IsWord, projection}
+use Rattle.za_alpha.specs.Search.{least}
 
 -- whether the script has the letter a at the place n
 abbrev pub comes_next : List ℕ → ℕ → ℕ → Bool

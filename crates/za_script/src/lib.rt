@@ -8,9 +8,9 @@ mod scripts;
 mod weaving;
 mod woven;
 
-pub use answer::Answer;
+pub use answer::{Answer, answer_of};
 pub use fault::{MOST_SCRIPT_LETTERS, ScriptFault};
-pub use laws::{answer_is_of_the_weave, weaving_is_confluent};
+pub use laws::{answer_is_of_the_weave, rest_answers_alike, weaving_goes_on, weaving_is_confluent};
 pub use scripts::Scripts;
 pub use woven::{Woven, weave};
 

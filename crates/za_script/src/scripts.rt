@@ -1,11 +1,13 @@
-ghost use Rattle.std.specs.Prelude.{◌≡◌, ◌<◌, ◌≤◌, ◌↔◌, ◌++◌, ◌∷◌, [], ℕ, All, None, IsTrue, IfOk, OnOk, OnErr, MatchResult, unwrap_or, length, replicate, slice_set};
+ghost use Rattle.std.specs.Prelude.{◌≡◌, ◌<◌, ◌≤◌, ◌↔◌, ◌++◌, ◌∷◌, [], ℕ, All, None, IsTrue, IfOk, OnOk, OnErr};
+ghost use Rattle.std.specs.Prelude.{MatchResult, unwrap_or, length, replicate, slice_set};
+ghost use Rattle.za_alpha.specs.Limits.{most_processes};
 ghost use Rattle.za_alpha.specs.Letters.{numbers};
 ghost use Rattle.za_script.specs.ScriptLists.{script_of, total_of, AreScripts, IsLetterOf, FitAlphabet, add_fault};
 
 use crate::fault::{MOST_SCRIPT_LETTERS, ScriptFault};
 use std::alloc::Global;
 use std::marker::Model;
-use za_alpha::{Alphabet, Letter, MOST_PROCESSES, OutOfMemory, Word};
+use za_alpha::{Alphabet, Letter, OutOfMemory, Word};
 
 /// A script for each process: the word that its part of a run has to be. Contracts see the list of
 /// these words.
@@ -17,7 +19,7 @@ pub struct Scripts {
 
 impl Model for Scripts {
     ghost use Rattle.std.specs.Prelude.{List, ℕ};
-    ghost use Rattle.za_script.specs.Inside.{scripts_of, AreScriptsInside};
+    ghost use Rattle.za_script.specs.Private.Inside.{scripts_of, AreScriptsInside};
 
     ghost Value = { List (List ℕ) };
 
@@ -46,11 +48,11 @@ fn are_letters_of(alphabet: &Alphabet, p: usize, letters: &[Letter]) -> bool
 }
 
 impl Scripts {
-    /// An empty script for each of `n` processes, 1 to 6. They keep the allocator for their letters.
-    /// `OutOfMemory` comes only where memory is refused.
+    /// An empty script for each of `n` processes, 1 to 10. They keep the allocator for their letters.
+    /// Want of memory is the one free answer.
     pub fn empty(alloc: Global, n: usize) -> Result<Scripts, OutOfMemory>
         requires some { 0 < n }
-        requires few { n ≤ MOST_PROCESSES }
+        requires few { n ≤ most_processes }
         ensures { IfOk result (λ s. s ≡ replicate n []) }
     {
         let mut words = Vec::with_capacity(alloc, n)?;
@@ -87,7 +89,7 @@ impl Scripts {
         Ok(())
     }
 
-    /// How many processes there are, 1 to 6.
+    /// How many processes there are, 1 to 10.
     pub fn processes(&self) -> usize
         ensures value { result ≡ length self.now }
         ensures limits { AreScripts self.now }
@@ -127,7 +129,7 @@ impl Scripts {
         true
     }
 
-    /// Equal scripts of their own. `OutOfMemory` comes only where memory is refused.
+    /// Equal scripts of their own. Want of memory is the one free answer.
     pub fn copy(&self) -> Result<Scripts, OutOfMemory>
         ensures { IfOk result (λ s. s ≡ self.now) }
     {

@@ -3,6 +3,7 @@ use std::alloc::{AllocError, Global};
 use std::process::Abort;
 use std::test::Fail;
 use za_alpha::{Alphabet, Letter, LetterRow, Word};
+use za_dfa::Dfa;
 
 fn row(alloc: Global, name: &[u8], procs: &[u32]) -> Result<LetterRow, AllocError> {
     Ok(LetterRow {
@@ -72,34 +73,52 @@ fn letters_are_appended_or_refused(rt: HostRuntime) -> Result<(), Fail> {
     Ok(())
 }
 
+/// The answer of an automaton that accepts the empty word alone.
+fn answer(
+    rt: &impl Abort,
+    alloc: Global,
+    alphabet: &Alphabet,
+    woven: &Woven,
+) -> Result<Answer, Fail> {
+    let dfa = Dfa::complete(alloc, alphabet.copy()?, 1, 0, vec![in alloc; true]?, &[])?;
+    assert!(rt; dfa.alphabet().has_word(woven.word()));
+    Ok(answer_of(&dfa, woven))
+}
+
 #[test]
 fn two_processes_weave(rt: HostRuntime) -> Result<(), Fail> {
     let alloc = rt.alloc();
     let alphabet = Alphabet::new(alloc, 2, rows(alloc)?)?;
     assert!(rt; alphabet.processes() == 2);
-    for (first, second, word, counts, whole) in [
+    for (first, second, word, counts, by_word) in [
         (
             [0, 2, 0].as_slice(),
             [1, 2].as_slice(),
             [0, 1, 2, 0].as_slice(),
             (3, 2),
-            true,
+            Answer::Reject,
         ),
         (
             [2, 0].as_slice(),
             [1].as_slice(),
             [1].as_slice(),
             (0, 1),
-            false,
+            Answer::Stuck,
         ),
-        ([].as_slice(), [].as_slice(), [].as_slice(), (0, 0), true),
+        (
+            [].as_slice(),
+            [].as_slice(),
+            [].as_slice(),
+            (0, 0),
+            Answer::Accept,
+        ),
     ] {
         let scripts = scripts(&rt, &alphabet, alloc, first, second)?;
         assert!(rt; scripts.fits(&alphabet));
         let woven = weave(alloc, &alphabet, &scripts)?;
         assert_letters(&rt, woven.word(), word);
         assert_eq!(rt; (woven.count(0), woven.count(1)), counts);
-        assert_eq!(rt; woven.whole(), whole);
+        assert_eq!(rt; answer(&rt, alloc, &alphabet, &woven)?, by_word);
     }
     Ok(())
 }

@@ -1,10 +1,11 @@
-ghost use Rattle.std.specs.Prelude.{◌≡◌, ◌<◌, ◌≤◌, ◌+◌, ◌↔◌, ◌==◌, ◌&&◌, ◌||◌, ℕ, All, IsTrue, IfOk, MatchOption, length, replicate, slice_index, vec_len, if◌then◌else◌};
+ghost use Rattle.std.specs.Prelude.{◌≡◌, ◌<◌, ◌≤◌, ◌+◌, ◌↔◌, ◌==◌, ◌&&◌, ◌||◌, ℕ, All, IsTrue, IfOk};
+ghost use Rattle.std.specs.Prelude.{MatchOption, length, replicate, slice_index, vec_len, if◌then◌else◌};
 ghost use Rattle.za_alpha.specs.Words.{has};
 ghost use Rattle.za_alpha.specs.Procs.{members, no_process};
 ghost use Rattle.za_alpha.specs.Alphabet.{loc_of, IsDistributed};
 ghost use Rattle.za_script.specs.Scripts.{comes_next};
 ghost use Rattle.za_script.specs.ScriptLists.{script_of, AreScripts, FitAlphabet};
-ghost use Rattle.za_script.specs.Weaving.{set_at, IsReady, IsGathered, IsLeastGathered, NoneGathered};
+ghost use Rattle.za_script.specs.Private.Weaving.{set_at, IsReady, IsGathered, IsLeastGathered, NoneGathered};
 
 use crate::scripts::Scripts;
 use std::alloc::Global;

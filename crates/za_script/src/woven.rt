@@ -1,8 +1,8 @@
 ghost use Rattle.std.specs.Prelude.{◌≡◌, ◌<◌, ◌↔◌, ℕ, IsTrue, IfOk, length, slice_index};
-ghost use Rattle.za_alpha.specs.Words.{projection};
 ghost use Rattle.za_alpha.specs.Alphabet.{loc_of};
-ghost use Rattle.za_script.specs.Scripts.{weave, Weaves};
+ghost use Rattle.za_script.specs.Scripts.{Weaves};
 ghost use Rattle.za_script.specs.ScriptLists.{script_of, FitAlphabet};
+ghost use Rattle.za_script.specs.Woven.{IsWeave};
 
 use crate::scripts::Scripts;
 use crate::weaving::Weaving;
@@ -54,15 +54,10 @@ impl Woven {
 /// Weaves the scripts: fires the least letter that is next at all its processes, until none is. The
 /// letters that a process fires are its script's first ones, as many as its count says. The result is
 /// whole exactly if every script is used up, which is exactly if the word weaves the scripts.
-/// A firing takes time in the order of the number of letters and of processes. `OutOfMemory` comes
-/// only where memory is refused.
+/// Want of memory is the one free answer.
 pub fn weave(alloc: Global, alphabet: &Alphabet, scripts: &Scripts) -> Result<Woven, OutOfMemory>
     requires { FitAlphabet alphabet.now scripts.now }
-    ensures word { IfOk result (λ w. w.word ≡ weave (loc_of alphabet.now)
-        (length alphabet.now.letters) alphabet.now.processes (script_of scripts.now)) }
-    ensures processes { IfOk result (λ w. length w.counts ≡ alphabet.now.processes) }
-    ensures counts { IfOk result (λ w. (p : ℕ) → p < alphabet.now.processes →
-        slice_index w.counts p ≡ length (projection (loc_of alphabet.now) p w.word)) }
+    ensures weave { IfOk result (IsWeave alphabet.now scripts.now) }
     ensures used_up { IfOk result (λ w. IsTrue w.whole ↔ ((p : ℕ) → p < alphabet.now.processes →
         slice_index w.counts p ≡ length (script_of scripts.now p))) }
     ensures whole { IfOk result (λ w. IsTrue w.whole ↔ Weaves (loc_of alphabet.now)

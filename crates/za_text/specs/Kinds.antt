@@ -1,7 +1,11 @@
 -- The texts that name the kinds of refusal.
 use Rattle.std.specs.Prelude.{ℕ, List, codes}
 use Rattle.za_text.specs.declared.kind.Kind.{Kind}
-use Rattle.za_text.specs.declared.kind.Kind.TheVariants.{Cut, BadByte, Header, OutOfOrder, WordCount, NoEnd, Trailing, BadNumber, BadName, ProcessCount, LetterCount, RepeatedName, EmptyLoc, NoSuchProcess, StateCount, NoSuchState, NoSuchLetter, TwoTargets, NotOfProcess, ScriptsFull, NoSuchAnswer, ClaimFull, BadEvent, NoSuchLabel}
+use Rattle.za_text.specs.declared.kind.Kind.TheVariants.{Cut, BadByte, Header, OutOfOrder, WordCount, NoEnd, Trailing}
+use Rattle.za_text.specs.declared.kind.Kind.TheVariants.{BadNumber, BadName, ProcessCount, LetterCount, RepeatedName}
+use Rattle.za_text.specs.declared.kind.Kind.TheVariants.{EmptyLoc, NoSuchProcess, StateCount, NoSuchState}
+use Rattle.za_text.specs.declared.kind.Kind.TheVariants.{NoSuchLetter, TwoTargets, NotOfProcess, ScriptsFull}
+use Rattle.za_text.specs.declared.kind.Kind.TheVariants.{NoSuchAnswer, ClaimFull, BadEvent, NoSuchLabel}
 
 -- the text of a kind
 abbrev pub kind_text : Kind → List ℕ

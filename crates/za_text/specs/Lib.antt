@@ -1,6 +1,6 @@
 pub mod Lines
 pub mod Words
-pub mod Names
+pub use Rattle.za_names.specs.Names
 pub mod Numbers
 pub mod Kinds
 pub mod Printed

@@ -1,5 +1,6 @@
 -- Numbers.
-use Rattle.std.specs.Prelude.{ℕ, ◌+◌, ◌-◌, ◌*◌, ◌==◌, ◌&&◌, nat_le, not, Bool, false, List, [], ◌∷◌, length, fold, Option, Some, None, if◌then◌else◌}
+use Rattle.std.specs.Prelude.{ℕ, ◌+◌, ◌-◌, ◌*◌, ◌==◌, ◌&&◌, nat_le, not, Bool, false, List, [], ◌∷◌, length, fold}
+use Rattle.std.specs.Prelude.{Option, Some, None, if◌then◌else◌}
 use Rattle.std.specs.List.{list_all}
 
 abbrev pub is_digit : ℕ → Bool
@@ -16,5 +17,5 @@ abbrev pub value_of : List ℕ → ℕ
 value_of digits = fold (λ v digit. v * 10 + (digit - 48)) 0 digits
 
 -- the number that a word is: a numeral of value at most 4294967295
-abbrev pub number_of : List ℕ → Option ℕ
-number_of word = if is_numeral word && nat_le (value_of word) 4294967295 then Some (value_of word) else None
+abbrev pub numeral_value : List ℕ → Option ℕ
+numeral_value word = if is_numeral word && nat_le (value_of word) 4294967295 then Some (value_of word) else None

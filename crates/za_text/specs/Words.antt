@@ -1,5 +1,6 @@
 -- Words of a line.
-use Rattle.std.specs.Prelude.{◌≡◌, ℕ, ◌≤◌, ◌<◌, ◌==◌, ◌||◌, not, Bool, List, [], ◌∷◌, length, drop, slice_range, if◌then◌else◌}
+use Rattle.std.specs.Prelude.{◌≡◌, ℕ, ◌≤◌, ◌<◌, ◌==◌, ◌||◌, not, Bool, List, [], ◌∷◌, length, drop, slice_range}
+use Rattle.std.specs.Prelude.{if◌then◌else◌}
 use Rattle.std.specs.List.{filter}
 use Rattle.za_text.specs.declared.word.Token.{Token}
 use Rattle.za_text.specs.declared.word.WordsOf.TheInside.{Inside}

@@ -4,7 +4,6 @@
 
 mod kind;
 mod line;
-mod name;
 mod numeral;
 #[cfg(test)]
 mod tests;
@@ -12,6 +11,6 @@ mod word;
 
 pub use kind::{Kind, TextFault};
 pub use line::{Line, Lines, are_allowed};
-pub use name::is_name;
 pub use numeral::number;
 pub use word::{Token, WordsOf};
+pub use za_names::is_name;

@@ -1,6 +1,6 @@
 ghost use Rattle.std.specs.Prelude.{◌≡◌, ◌≤◌, ◌<◌, ◌^◌, All, length};
 ghost use Rattle.std.specs.List.{list_all};
-ghost use Rattle.za_text.specs.Numbers.{is_digit, is_numeral, value_of, number_of};
+ghost use Rattle.za_text.specs.Numbers.{is_digit, is_numeral, value_of, numeral_value};
 
 /// The most digits of a number.
 const MOST_DIGITS: usize = 10;
@@ -43,7 +43,7 @@ fn value(digits: &[u8]) -> u64
 /// The number that the word is: 1 to 10 decimal digits without a leading 0, but for `0` itself, of
 /// value at most 4,294,967,295. `None` where the word is no such number.
 pub fn number(word: &[u8]) -> Option<u32>
-    ensures { result ≡ number_of word.now }
+    ensures { result ≡ numeral_value word.now }
 {
     if !is_numeral(word) {
         return None;

@@ -1,9 +1,9 @@
 -- The definitions of this crate at small words.
 use Rattle.std.proofs.Common.{◌≡◌, ℕ, true, false, List, [], ◌∷◌, Option, Some, None, refl}
 use Rattle.za_views.specs.declared.events.Event.{Event}
-use Rattle.za_views.specs.Events.{known, known_by}
-use Rattle.za_views.specs.Newest.{later}
-use Rattle.za_views.specs.Taken.{is_taken}
+use Rattle.za_views.specs.Private.Events.{known, known_by}
+use Rattle.za_views.specs.Private.Newest.{later}
+use Rattle.za_views.specs.Private.Taken.{is_label_taken}
 
 later_of_two : later (Some 3) (Some 1) ≡ Some 3
 later_of_two = refl
@@ -27,15 +27,15 @@ zero_knows : known_by two (Some 3 ∷ Some 2 ∷ []) 1 0 ≡ Some 2
 zero_knows = refl
 
 -- another a may not have the label of the last, and may have the next
-label_taken : is_taken two 2 0 0 3 (Some 3) ≡ true
+label_taken : is_label_taken two 2 0 0 3 (Some 3) ≡ true
 label_taken = refl
 
-label_free : is_taken two 2 0 1 3 (Some 3) ≡ false
+label_free : is_label_taken two 2 0 1 3 (Some 3) ≡ false
 label_free = refl
 
 -- a a, of one process: the first is not found from the second
 abbrev one : List Event
 one = kept 0 0 (Some 0 ∷ []) ∷ kept 0 1 (Some 1 ∷ []) ∷ []
 
-label_again : is_taken one 1 0 0 3 (Some 1) ≡ false
+label_again : is_label_taken one 1 0 0 3 (Some 1) ≡ false
 label_again = refl

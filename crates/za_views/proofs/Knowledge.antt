@@ -11,7 +11,7 @@ use Rattle.za_order.proofs.Chains.{chain-same, chain-trans}
 use Rattle.za_order.proofs.Views.{view-sound, view-down, view-own}
 use Rattle.za_order.proofs.Entries.{IsLatest, primary-sound, primary-complete, primary-some, last_in_past-sound, last_in_past-complete}
 use Rattle.za_order.proofs.Steps.{primary_of_participant, primary_joined}
-use Rattle.za_views.specs.Newest.{IsNewest, IsJoined}
+use Rattle.za_views.specs.Private.Newest.{IsNewest, IsJoined}
 
 module _ (who : ℕ → List ℕ) (n p : ℕ) where
   -- a chain leads from each event that p knows to its own last event

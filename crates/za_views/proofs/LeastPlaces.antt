@@ -1,10 +1,10 @@
--- The least number that passes a test, and the first that is free.
-use Rattle.std.proofs.Common.{◌≡◌, ℕ, ◌<◌, ◌≤◌, Bool, true, false, inl, inr, List, sym, ◌∙◌, arith}
+-- The least number that passes a test.
+use Rattle.std.proofs.Common.{◌≡◌, ℕ, zero, suc, ◌<◌, ◌≤◌, Bool, true, false, not, inl, inr, List, refl, sym, ap, ◌∙◌, arith, if◌then◌else◌}
 use Rattle.std.proofs.lemmas.Bool.{cases_lt}
-use Rattle.za_alpha.specs.Words.{has, least}
+use Rattle.za_alpha.specs.Words.{has}
+use Rattle.za_alpha.specs.Search.{least}
 use Rattle.za_alpha.specs.Procs.{IsLeastOf}
 use Rattle.za_alpha.proofs.Least.{least-true, least-le}
-use Rattle.za_views.specs.Taken.{IsFirstFree}
 
 -- the least of some processes, of which p is one, is no greater
 pub least-of-le : (ps : List ℕ) (p x : ℕ) → has ps p ≡ true → IsLeastOf ps x → x ≤ p
@@ -24,10 +24,10 @@ least-of ps n p x b t l =
       | inr same ↦ omega arith
     ]
 
--- what is first free of marks is first free of what is marked
-pub first-free-same : (marks taken : ℕ → Bool) (size bound k : ℕ) → size ≡ bound → ((j : ℕ) → j < bound → marks j ≡ taken j) → IsFirstFree marks size k → IsFirstFree taken bound k
-first-free-same marks taken size bound k e same f = record {
-  within = let w = f.within in omega arith;
-  below = λ j l. sym (same j (let w = f.within in omega arith)) ∙ f.below j l;
-  free = λ l. sym (same k l) ∙ f.free (omega arith);
-}
+-- tests that agree below the bound have one least
+pub least-same : (marks taken : ℕ → Bool) (bound : ℕ) → ((j : ℕ) → j < bound → marks j ≡ taken j) → least (λ k. not (marks k)) bound ≡ least (λ k. not (taken k)) bound
+least-same marks taken zero same = refl
+least-same marks taken (suc n) same =
+    let rest = least-same (λ k. marks (suc k)) (λ k. taken (suc k)) n (λ j l. same (suc j) (omega arith)) in
+    ap (λ b. if not b then 0 else suc (least (λ k. not (marks (suc k))) n)) (same 0 (omega arith))
+    ∙ ap (λ m. if not (taken 0) then 0 else suc m) rest

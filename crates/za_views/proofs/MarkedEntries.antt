@@ -5,8 +5,8 @@ use Rattle.za_order.specs.Entries.{primary, last_in_past, secondary, tertiary}
 use Rattle.za_order.proofs.Chains.{chain-le}
 use Rattle.za_order.proofs.Entries.{primary-sound, primary-below, secondary-sound, secondary-below, last_in_past-sound}
 use Rattle.za_views.specs.declared.events.Event.{Event}
-use Rattle.za_views.specs.Events.{entry, known, known_by, event_at, AreEvents}
-use Rattle.za_views.specs.Kept.{AreMarked}
+use Rattle.za_views.specs.Private.Events.{entry, known, known_by, event_at, AreEvents}
+use Rattle.za_views.specs.Private.Kept.{AreMarked}
 use Rattle.za_order.proofs.Prefixes.{then-same}
 use Rattle.za_views.proofs.Knowledge.{primary-through_own}
 

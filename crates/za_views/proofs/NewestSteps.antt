@@ -2,7 +2,7 @@
 use Rattle.std.proofs.Common.{◌≡◌, ℕ, ◌+◌, ◌≤◌, true, false, ◌⊎◌, inl, inr, max, List, Option, Some, None, refl, sym, ap, subst, ◌∙◌, arith}
 use Rattle.std.proofs.lemmas.Bool.{cases_eq}
 use Rattle.za_alpha.specs.Words.{has}
-use Rattle.za_views.specs.Newest.{later, IsNewest}
+use Rattle.za_views.specs.Private.Newest.{later, IsNewest}
 
 -- the later of two is one of them
 later-one : (a b : Option ℕ) (g : ℕ) → later a b ≡ Some g → (a ≡ Some g) ⊎ (b ≡ Some g)

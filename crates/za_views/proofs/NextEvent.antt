@@ -9,9 +9,9 @@ use Rattle.za_order.specs.Labels.{label}
 use Rattle.za_order.proofs.Participants.{IsOver}
 use Rattle.za_order.proofs.Steps.{primary_of_participant, primary_kept}
 use Rattle.za_views.specs.declared.events.Event.{Event}
-use Rattle.za_views.specs.Events.{no_event, event_at, entry, known_by}
-use Rattle.za_views.specs.Newest.{IsJoined}
-use Rattle.za_views.specs.Kept.{AreMarked}
+use Rattle.za_views.specs.Private.Events.{no_event, event_at, entry, known_by}
+use Rattle.za_views.specs.Private.Newest.{IsJoined}
+use Rattle.za_views.specs.Private.Kept.{AreMarked}
 use Rattle.za_order.proofs.Prefixes.{Agree, primary-same, last-same, label-same}
 use Rattle.za_views.proofs.Knowledge.{joined-is}
 use Rattle.za_views.proofs.MarkedEntries.{first-is}

@@ -1,5 +1,2 @@
 pub mod Marks
-pub mod Events
-pub mod Newest
-pub mod Taken
-pub mod Kept
+pub mod Private

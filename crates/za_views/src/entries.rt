@@ -1,8 +1,11 @@
-ghost use Rattle.std.specs.Prelude.{◌≡◌, ℕ, ◌<◌, ◌≤◌, length, slice_index_or, Option, Some, None, IsTrue, if◌then◌else◌};
-ghost use Rattle.za_alpha.specs.Words.{has, least};
+ghost use Rattle.std.specs.Prelude.{◌≡◌, ℕ, ◌<◌, ◌≤◌, length, slice_index_or, Option, Some, None, IsTrue};
+ghost use Rattle.std.specs.Prelude.{if◌then◌else◌};
+ghost use Rattle.za_alpha.specs.Limits.{most_processes};
+ghost use Rattle.za_alpha.specs.Words.{has};
+ghost use Rattle.za_alpha.specs.Search.{least};
 ghost use Rattle.za_alpha.specs.Procs.{members};
-ghost use Rattle.za_views.specs.Events.{AreEvents, entry, known_by};
-ghost use Rattle.za_views.specs.Newest.{later, IsNewest, IsJoined};
+ghost use Rattle.za_views.specs.Private.Events.{AreEvents, entry, known_by};
+ghost use Rattle.za_views.specs.Private.Newest.{later, IsNewest, IsJoined};
 
 use crate::events::{Event, Row, latest_in};
 use za_alpha::{MOST_PROCESSES, Procs};
@@ -21,9 +24,9 @@ fn later(a: Option<usize>, b: Option<usize>) -> Option<usize>
 /// The newest event of process `q` that one of the processes knows. `own` has the last event of
 /// each process.
 fn newest(events: &[Event], own: &Row, takes: Procs, processes: usize, q: usize) -> Option<usize>
-    requires few { processes ≤ MOST_PROCESSES }
+    requires few { processes ≤ most_processes }
     requires within { AreEvents (length events.now) processes own.now }
-    requires process { q < MOST_PROCESSES }
+    requires process { q < most_processes }
     ensures { IsNewest (members takes) processes (known_by events.now own.now q) result }
 {
     let mut best = None;
@@ -38,9 +41,9 @@ fn newest(events: &[Event], own: &Row, takes: Procs, processes: usize, q: usize)
 /// What the next event knows of process `q`: itself where `q` takes part, and else the newest event
 /// that a participant knows.
 fn joined(events: &[Event], own: &Row, takes: Procs, processes: usize, q: usize) -> Option<usize>
-    requires few { processes ≤ MOST_PROCESSES }
+    requires few { processes ≤ most_processes }
     requires within { AreEvents (length events.now) processes own.now }
-    requires process { q < MOST_PROCESSES }
+    requires process { q < most_processes }
     ensures { IsJoined (members takes) processes (length events.now) q (known_by events.now own.now q) result }
 {
     if takes.has(q) {
@@ -52,9 +55,10 @@ fn joined(events: &[Event], own: &Row, takes: Procs, processes: usize, q: usize)
 
 /// What the next event knows of each process. `own` has the last event of each process.
 pub(crate) fn past_of_next(events: &[Event], own: &Row, takes: Procs, processes: usize) -> Row
-    requires few { processes ≤ MOST_PROCESSES }
+    requires few { processes ≤ most_processes }
     requires within { AreEvents (length events.now) processes own.now }
-    ensures { (q : ℕ) → q < processes → IsJoined (members takes) processes (length events.now) q (known_by events.now own.now q) (entry result q) }
+    ensures { (q : ℕ) → q < processes →
+        IsJoined (members takes) processes (length events.now) q (known_by events.now own.now q) (entry result q) }
 {
     let mut past = [None; MOST_PROCESSES];
     for q in 0..processes {
@@ -65,8 +69,9 @@ pub(crate) fn past_of_next(events: &[Event], own: &Row, takes: Procs, processes:
 
 /// Makes the event at position `at` the last of each process that takes part in it.
 pub(crate) fn take_part(own: &mut Row, takes: Procs, processes: usize, at: usize)
-    requires { processes ≤ MOST_PROCESSES }
-    ensures { (p : ℕ) → p < processes → entry own.new p ≡ (if has (members takes) p then Some at else entry own.old p) }
+    requires { processes ≤ most_processes }
+    ensures { (p : ℕ) → p < processes →
+        entry own.new p ≡ (if has (members takes) p then Some at else entry own.old p) }
 {
     for p in 0..processes {
         if takes.has(p) {
@@ -77,7 +82,7 @@ pub(crate) fn take_part(own: &mut Row, takes: Procs, processes: usize, at: usize
 
 /// The last event of the least participant.
 pub(crate) fn own_of_least(own: &Row, takes: Procs, processes: usize) -> Option<usize>
-    requires few { processes ≤ MOST_PROCESSES }
+    requires few { processes ≤ most_processes }
     requires some { (p : ℕ) × (p < processes) × IsTrue (has (members takes) p) }
     ensures { result ≡ entry own.now (least (λ p. has (members takes) p) processes) }
 {

@@ -1,5 +1,6 @@
 ghost use Rattle.std.specs.Prelude.{◌≡◌, ◌<◌, length, IfSome, option_and_then};
-ghost use Rattle.za_views.specs.Events.{known};
+ghost use Rattle.za_alpha.specs.Limits.{most_processes};
+ghost use Rattle.za_views.specs.Private.Events.{known};
 
 use za_alpha::{Letter, MOST_PROCESSES};
 
@@ -17,7 +18,7 @@ pub(crate) struct Event {
 /// The latest event of process `q` in the past of an event, and none in that of none.
 pub(crate) fn latest_in(events: &[Event], event: Option<usize>, q: usize) -> Option<usize>
     requires within { IfSome event (λ e. e < length events.now) }
-    requires process { q < MOST_PROCESSES }
+    requires process { q < most_processes }
     ensures { result ≡ option_and_then (λ e. known events.now e q) event }
 {
     events[event?].past[q]

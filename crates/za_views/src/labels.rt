@@ -1,12 +1,12 @@
 ghost use Rattle.std.specs.Prelude.{◌≡◌, ℕ, ◌<◌, ◌≤◌, ◌||◌, false, length, slice_index_or, IfSome};
-ghost use Rattle.za_views.specs.Events.{AreLabelled};
-ghost use Rattle.za_views.specs.Taken.{is_taken, IsFirstFree};
+ghost use Rattle.za_alpha.specs.Limits.{most_processes};
+ghost use Rattle.za_ids.specs.Limits.{most_labels};
+ghost use Rattle.za_views.specs.Private.Events.{AreLabelled};
+ghost use Rattle.za_views.specs.Private.Taken.{is_label_taken, least_untaken};
 
 use crate::events::Event;
-use za_alpha::{Letter, MOST_PROCESSES};
-
-/// More than the most labels of a letter: labels are at most the cube of the number of processes.
-pub(crate) const LABELS: usize = MOST_PROCESSES * MOST_PROCESSES * MOST_PROCESSES + 1;
+use za_alpha::Letter;
+use za_ids::{MOST_LABELS, first_unmarked};
 
 /// Marks the labels of the events of a letter that are found from an event in so many steps. A step
 /// goes from an event to one of those that it has in its row.
@@ -18,10 +18,12 @@ fn mark_taken(
     event: Option<usize>,
     taken: &mut [bool],
 )
-    requires few { processes ≤ MOST_PROCESSES }
+    requires few { processes ≤ most_processes }
     requires within { IfSome event (λ e. e < length events.now) }
     requires labelled { AreLabelled (length taken.old) processes events.now }
-    ensures { (k : ℕ) → k < length taken.old → slice_index_or taken.new k false ≡ (slice_index_or taken.old k false || is_taken events.now processes letter.0 k steps event) }
+    ensures { (k : ℕ) → k < length taken.old →
+        let found = is_label_taken events.now processes letter.0 k steps event in
+        slice_index_or taken.new k false ≡ (slice_index_or taken.old k false || found) }
 {
     let Some(e) = event else {
         return;
@@ -38,18 +40,6 @@ fn mark_taken(
     }
 }
 
-/// The first place without a mark, and the length where there is none.
-fn first_free(taken: &[bool]) -> usize
-    ensures { IsFirstFree (λ k. slice_index_or taken.now k false) (length taken.now) result }
-{
-    for (k, mark) in taken.iter().enumerate() {
-        if !*mark {
-            return k;
-        }
-    }
-    taken.len()
-}
-
 /// The label of the next event, an event of the letter: the least that no event of the letter has
 /// that is a tertiary entry of the process whose last event is `own`.
 pub(crate) fn free_label(
@@ -58,12 +48,12 @@ pub(crate) fn free_label(
     letter: Letter,
     own: Option<usize>,
 ) -> u16
-    requires few { processes ≤ MOST_PROCESSES }
+    requires few { processes ≤ most_processes }
     requires within { IfSome own (λ e. e < length events.now) }
-    requires labelled { AreLabelled LABELS processes events.now }
-    ensures { IsFirstFree (λ k. is_taken events.now processes letter.0 k 3 own) LABELS result }
+    requires labelled { AreLabelled most_labels processes events.now }
+    ensures { result ≡ least_untaken events.now processes letter.0 own }
 {
-    let mut taken = [false; LABELS];
+    let mut taken = [false; MOST_LABELS];
     mark_taken(events, processes, letter, 3, own, &mut taken);
-    first_free(&taken) as u16
+    first_unmarked(&taken) as u16
 }

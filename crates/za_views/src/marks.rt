@@ -16,10 +16,9 @@ use za_alpha::{Alphabet, Letter, MOST_PROCESSES, OutOfMemory};
 /// others and with the label of each event (Mukund and Sohoni 1997). Events are named by their
 /// positions, from 0 on.
 ///
-/// All memory is taken by `new`: a copy of the alphabet, and about 100 bytes for each event that
-/// there is room for. With n processes `push` makes at most n^2 look-ups for what the event knows,
-/// and n + n^2 + n^3 for its label, with a row of marks of fixed length; each other call makes at
-/// most four. None of this grows with the length of the word.
+/// All memory is taken by `new`: a copy of the alphabet, and a row of one entry a process for each
+/// event that there is room for. What a call does depends on the number of processes, and not on the
+/// length of the word.
 #[derive(Debug, Drop)]
 pub struct Marks {
     alphabet: Alphabet,
@@ -34,7 +33,7 @@ impl Model for Marks {
 
     ghost Value = { MarkedWord };
 
-    ghost use Rattle.za_views.specs.Kept.{marked_word, IsKept};
+    ghost use Rattle.za_views.specs.Private.Kept.{marked_word, IsKept};
 
     ghost view = { marked_word };
 
@@ -88,7 +87,9 @@ impl Marks {
     pub fn push(&mut self, a: Letter) -> u16
         requires room { length self.old.word < self.old.room }
         requires letter { a.0 < length self.old.alphabet.letters }
-        ensures label { result ≡ label (loc_of self.old.alphabet) self.old.alphabet.processes (self.old.word ++ a.0 ∷ []) (length self.old.word) }
+        ensures label { let alphabet = self.old.alphabet in
+            let longer = self.old.word ++ a.0 ∷ [] in
+            result ≡ label (loc_of alphabet) alphabet.processes longer (length self.old.word) }
         ensures word { self.new ≡ record self.old { word = self.old.word ++ a.0 ∷ [] } }
     {
         let processes = self.alphabet.processes();
@@ -112,7 +113,8 @@ impl Marks {
     pub fn latest(&self, p: usize, q: usize) -> Option<usize>
         requires first { p < self.now.alphabet.processes }
         requires second { q < self.now.alphabet.processes }
-        ensures { result ≡ primary (participants (loc_of self.now.alphabet) self.now.word) (length self.now.word) p q }
+        ensures { let who = participants (loc_of self.now.alphabet) self.now.word in
+            result ≡ primary who (length self.now.word) p q }
     {
         latest_in(self.events.as_slice(), self.own[p], q)
     }
@@ -123,7 +125,8 @@ impl Marks {
         requires first { p < self.now.alphabet.processes }
         requires second { q < self.now.alphabet.processes }
         requires third { r < self.now.alphabet.processes }
-        ensures { result ≡ secondary (participants (loc_of self.now.alphabet) self.now.word) (length self.now.word) p q r }
+        ensures { let who = participants (loc_of self.now.alphabet) self.now.word in
+            result ≡ secondary who (length self.now.word) p q r }
     {
         latest_in(self.events.as_slice(), self.latest(p, q), r)
     }
@@ -135,7 +138,8 @@ impl Marks {
         requires second { q < self.now.alphabet.processes }
         requires third { r < self.now.alphabet.processes }
         requires fourth { s < self.now.alphabet.processes }
-        ensures { result ≡ tertiary (participants (loc_of self.now.alphabet) self.now.word) (length self.now.word) p q r s }
+        ensures { let who = participants (loc_of self.now.alphabet) self.now.word in
+            result ≡ tertiary who (length self.now.word) p q r s }
     {
         latest_in(self.events.as_slice(), self.second(p, q, r), s)
     }

@@ -10,12 +10,10 @@ use Rattle.za_dfa.proofs.TableLemmas.{total_of_complete}
 use Rattle.za_script.specs.declared.answer.Answer.TheVariants.{Accept, Reject, Stuck}
 use Rattle.za_script.specs.Scripts.{Weaves}
 use Rattle.za_script.specs.ScriptLists.{script_of}
-use Rattle.za_script.specs.Woven.{WovenWord}
-use Rattle.za_script.specs.Answer.{IsAnswer}
+use Rattle.za_script.specs.Woven.{WovenWord, weave_of}
+use Rattle.za_script.specs.Answer.{IsAnswer, answer_by}
 use Rattle.za_script.proofs.Confluence.{weave_is_maximal}
 use Rattle.za_script.proofs.Answers.{accept_is_of_the_weave, reject_is_of_the_weave, stuck_is_of_the_weave}
-use Rattle.za_report.specs.Texts.{weave_of}
-use Rattle.zielonka.specs.Output.{answer_by}
 
 -- the weave is a word over the alphabet
 pub weave-word : (d : CompleteDfa) (scripts : List (List ℕ)) → IsComplete d → IsWord (length d.alphabet.letters) (weave_of d.alphabet scripts)

@@ -2,7 +2,7 @@
 use Rattle.std.proofs.Common.{◌≡◌, ◌≢◌, ℕ, ◌+◌, ◌<◌, ◌≤◌, ◌||◌, Bool, true, false, inl, inr, ◌⊎◌, List, [], ◌∷◌, ◌++◌, length, length-append, take, Option, Some, None, sym, ap, subst, ◌∙◌, refl, arith}
 use Rattle.std.specs.Prelude.{◌==◌}
 use Rattle.std.specs.List.{list_any}
-use Rattle.std.specs.Io.KnownBytes.{Consumes, Appends, IsAtEnd}
+use Rattle.std.specs.Io.KnownBytes.{Consumes, IsAtEnd}
 use Rattle.std.proofs.lemmas.Bool.{or_left}
 use Rattle.std.proofs.lemmas.List.{append-nil}
 use Rattle.za_base.specs.Fault.{Rises}
@@ -12,10 +12,10 @@ use Rattle.zielonka.specs.declared.request.Command.{Command}
 use Rattle.zielonka.specs.declared.request.Command.TheVariants.{Solo}
 use Rattle.zielonka.specs.declared.request.Request.{Request}
 use Rattle.zielonka.specs.declared.request.Request.TheVariants.{Usage as AsksUsage, NotBuilt as AsksMore, Answer as Asks}
-use Rattle.zielonka.specs.declared.run.TheConstants.{MOST_BYTES}
-use Rattle.zielonka.specs.Output.{IsOutput, Refused, Read, IsDueFor, Open, Answered, IsAnswered, Ran, Checked, Shown, usage_text, too_long_text, not_built_text, status_of}
-use Rattle.zielonka.specs.Run.{Ends, AreNoForm, AreNotBuilt, AskFor, ReadNothing, ReadAll, ReadNotTooMany, ReadTooMany, WroteNothing, IsDue, Usage, NotBuilt, TooLong, Said, HasRun, Wrote, WriteFault, ReadFault, NoMemory}
-use Rattle.zielonka.specs.Laws.{UsageIsOfTheWords, WordsDecideTheUsage, NotBuiltIsOfTheWords, WordsDecideNotBuilt, AskForSome, ReadFaultIsOfTheSource, WriteFaultIsOfTheSink, TooLongIsOfTheBytes, TooManyDecide, TooManyComplete, NoMemoryWritesNothing, is_of_bytes, AnswerIsOfAllBytes, StatusesAreKnown, RunCompletes}
+use Rattle.zielonka.specs.Limits.{most_bytes}
+use Rattle.zielonka.specs.Output.{IsOutput, Refused, Read, IsDueFor, Open, Answered, IsAnswered, Ran, Checked, Told, usage_text, too_long_text, not_built_text, status_of}
+use Rattle.zielonka.specs.Run.{Ends, AreNoForm, AreNotBuilt, AskFor, ReadNothing, ReadAll, ReadNotTooMany, ReadTooMany, NoReadFailed, NoWriteFailed, WroteNothing, WroteAll, WrotePart, IsDue, Usage, NotBuilt, TooLong, Said, HasRun, Wrote, WriteFault, ReadFault, NoMemory}
+use Rattle.zielonka.specs.Laws.{UsageIsOfTheWords, WordsDecideTheUsage, NotBuiltIsOfTheWords, WordsDecideNotBuilt, AskForSome, ReadFaultIsOfTheSource, WriteFaultIsOfTheSink, CountsStay, TooLongIsOfTheBytes, TooManyDecide, TooManyComplete, NoMemoryWritesNothing, is_of_bytes, AnswerIsOfAllBytes, StatusesAreKnown, RunCompletes}
 use Rattle.za_lang.specs.Jobs.{JobData}
 
 -- an answer's status is one of those of bytes
@@ -27,7 +27,7 @@ answer-status Stuck = refl
 answered-status : {job : JobData} {command : Command} {status : ℕ} {text : List ℕ} → IsAnswered job command status text → is_of_bytes status ≡ true
 answered-status (Ran answer right) = answer-status answer
 answered-status (Checked d minimal) = refl
-answered-status (Shown d minimal) = refl
+answered-status (Told d minimal) = refl
 
 -- the status that is due for a job or for bytes is one of those
 due-status : {job : JobData} {command : Command} {status : ℕ} {text : List ℕ} → IsDueFor command job status text → is_of_bytes status ≡ true
@@ -96,11 +96,11 @@ module _ (words : List (List ℕ)) (old new : Ends) where
   usage_due (TooLong command asks many) e = absurd (omega arith)
   usage_due (Said command bytes status text asks all output) e = absurd (other status 2 (output-status output) refl e)
 
-  usage_run : {status : ℕ} → HasRun words old new status → status ≡ 2 → AreNoForm words × ReadNothing old new × Appends old.written new.written usage_text
-  usage_run (Wrote status text due whole) e = let cause = usage_due due e in (cause.0, cause.1, subst (Appends old.written new.written) cause.2 whole)
-  usage_run (WriteFault status k text due short part rose) e = absurd (omega arith)
+  usage_run : {status : ℕ} → HasRun words old new status → status ≡ 2 → AreNoForm words × ReadNothing old new × WroteAll old new usage_text
+  usage_run (Wrote status text due whole) e = let cause = usage_due due e in (cause.0, cause.1, subst (WroteAll old new) cause.2 whole)
+  usage_run (WriteFault status k text due part) e = absurd (omega arith)
   usage_run (ReadFault command asks few rose nothing) e = absurd (omega arith)
-  usage_run (NoMemory nothing) e = absurd (omega arith)
+  usage_run (NoMemory few same nothing) e = absurd (omega arith)
 
   -- words in no form
   words_due : {status : ℕ} {text : List ℕ} → IsDue words old new status text → AreNoForm words → status ≡ 2
@@ -111,9 +111,9 @@ module _ (words : List (List ℕ)) (old new : Ends) where
 
   words_run : {status : ℕ} → HasRun words old new status → AreNoForm words → (status ≡ 2) ⊎ ((status ≡ 7) ⊎ (status ≡ 8))
   words_run (Wrote status text due whole) no_form = inl (words_due due no_form)
-  words_run (WriteFault status k text due short part rose) no_form = inr (inl refl)
+  words_run (WriteFault status k text due part) no_form = inr (inl refl)
   words_run (ReadFault command asks few rose nothing) no_form = absurd (usage-not-read command no_form asks)
-  words_run (NoMemory nothing) no_form = inr (inr refl)
+  words_run (NoMemory few same nothing) no_form = inr (inr refl)
 
   -- status 10
   not_built_due : {status : ℕ} {text : List ℕ} → IsDue words old new status text → status ≡ 10 → AreNotBuilt words × ReadNothing old new × (text ≡ not_built_text)
@@ -122,11 +122,11 @@ module _ (words : List (List ℕ)) (old new : Ends) where
   not_built_due (TooLong command asks many) e = absurd (omega arith)
   not_built_due (Said command bytes status text asks all output) e = absurd (other status 10 (output-status output) refl e)
 
-  not_built_run : {status : ℕ} → HasRun words old new status → status ≡ 10 → AreNotBuilt words × ReadNothing old new × Appends old.written new.written not_built_text
-  not_built_run (Wrote status text due whole) e = let cause = not_built_due due e in (cause.0, cause.1, subst (Appends old.written new.written) cause.2 whole)
-  not_built_run (WriteFault status k text due short part rose) e = absurd (omega arith)
+  not_built_run : {status : ℕ} → HasRun words old new status → status ≡ 10 → AreNotBuilt words × ReadNothing old new × WroteAll old new not_built_text
+  not_built_run (Wrote status text due whole) e = let cause = not_built_due due e in (cause.0, cause.1, subst (WroteAll old new) cause.2 whole)
+  not_built_run (WriteFault status k text due part) e = absurd (omega arith)
   not_built_run (ReadFault command asks few rose nothing) e = absurd (omega arith)
-  not_built_run (NoMemory nothing) e = absurd (omega arith)
+  not_built_run (NoMemory few same nothing) e = absurd (omega arith)
 
   -- words in a form that isn't built
   more_due : {status : ℕ} {text : List ℕ} → IsDue words old new status text → AreNotBuilt words → status ≡ 10
@@ -137,9 +137,9 @@ module _ (words : List (List ℕ)) (old new : Ends) where
 
   more_run : {status : ℕ} → HasRun words old new status → AreNotBuilt words → (status ≡ 10) ⊎ ((status ≡ 7) ⊎ (status ≡ 8))
   more_run (Wrote status text due whole) more = inl (more_due due more)
-  more_run (WriteFault status k text due short part rose) more = inr (inl refl)
+  more_run (WriteFault status k text due part) more = inr (inl refl)
   more_run (ReadFault command asks few rose nothing) more = absurd (more-not-read command more asks)
-  more_run (NoMemory nothing) more = inr (inr refl)
+  more_run (NoMemory few same nothing) more = inr (inr refl)
 
   -- what is due has no status of its own but 2, 9, 10 and those of bytes
   due_status : {status : ℕ} {text : List ℕ} → IsDue words old new status text → ((status ≡ 2) ⊎ ((status ≡ 9) ⊎ (status ≡ 10))) ⊎ (is_of_bytes status ≡ true)
@@ -158,24 +158,37 @@ module _ (words : List (List ℕ)) (old new : Ends) where
   -- status 6
   read_fault_run : {status : ℕ} → HasRun words old new status → status ≡ 6 → AskForSome words × ReadNotTooMany old new × Rises old.read_faults new.read_faults × WroteNothing old new
   read_fault_run (Wrote status text due whole) e = absurd (never_due status 6 (due_status due) (omega arith) (omega arith) (omega arith) refl e)
-  read_fault_run (WriteFault status k text due short part rose) e = absurd (omega arith)
+  read_fault_run (WriteFault status k text due part) e = absurd (omega arith)
   read_fault_run (ReadFault command asks few rose nothing) e = ((command, asks), few, rose, nothing)
-  read_fault_run (NoMemory nothing) e = absurd (omega arith)
+  read_fault_run (NoMemory few same nothing) e = absurd (omega arith)
 
   -- status 7
   write_fault_run : {status : ℕ} → HasRun words old new status → status ≡ 7 →
-      (due k : ℕ) × (text : List ℕ) × IsDue words old new due text × (k < length text) × Appends old.written new.written (take k text) × Rises old.write_faults new.write_faults
+      (due k : ℕ) × (text : List ℕ) × IsDue words old new due text × WrotePart old new text k
   write_fault_run (Wrote status text due whole) e = absurd (never_due status 7 (due_status due) (omega arith) (omega arith) (omega arith) refl e)
-  write_fault_run (WriteFault status k text due short part rose) e = (status, k, text, due, short, part, rose)
+  write_fault_run (WriteFault status k text due part) e = (status, k, text, due, part)
   write_fault_run (ReadFault command asks few rose nothing) e = absurd (omega arith)
-  write_fault_run (NoMemory nothing) e = absurd (omega arith)
+  write_fault_run (NoMemory few same nothing) e = absurd (omega arith)
+
+  -- counts that stay
+  counts_due : {status : ℕ} {text : List ℕ} → IsDue words old new status text → NoReadFailed old new
+  counts_due (Usage none nothing) = nothing.1
+  counts_due (NotBuilt more nothing) = nothing.1
+  counts_due (TooLong command asks many) = many.1
+  counts_due (Said command bytes status text asks all output) = all.3
+
+  counts_run : {status : ℕ} → HasRun words old new status → (status ≢ 6 → NoReadFailed old new) × (status ≢ 7 → NoWriteFailed old new)
+  counts_run (Wrote status text due whole) = (λ h. counts_due due, λ h. whole.1)
+  counts_run (WriteFault status k text due part) = (λ h. counts_due due, λ h. absurd (h refl))
+  counts_run (ReadFault command asks few rose nothing) = (λ h. absurd (h refl), λ h. nothing.1)
+  counts_run (NoMemory few same nothing) = (λ h. same, λ h. nothing.1)
 
   -- status 8
   no_memory_run : {status : ℕ} → HasRun words old new status → status ≡ 8 → WroteNothing old new
   no_memory_run (Wrote status text due whole) e = absurd (never_due status 8 (due_status due) (omega arith) (omega arith) (omega arith) refl e)
-  no_memory_run (WriteFault status k text due short part rose) e = absurd (omega arith)
+  no_memory_run (WriteFault status k text due part) e = absurd (omega arith)
   no_memory_run (ReadFault command asks few rose nothing) e = absurd (omega arith)
-  no_memory_run (NoMemory nothing) e = nothing
+  no_memory_run (NoMemory few same nothing) e = nothing
 
   -- status 9
   too_long_due : {status : ℕ} {text : List ℕ} → IsDue words old new status text → status ≡ 9 → AskForSome words × ReadTooMany old new × (text ≡ too_long_text)
@@ -184,40 +197,40 @@ module _ (words : List (List ℕ)) (old new : Ends) where
   too_long_due (TooLong command asks many) e = ((command, asks), many, refl)
   too_long_due (Said command bytes status text asks all output) e = absurd (other status 9 (output-status output) refl e)
 
-  too_long_run : {status : ℕ} → HasRun words old new status → status ≡ 9 → AskForSome words × ReadTooMany old new × Appends old.written new.written too_long_text
-  too_long_run (Wrote status text due whole) e = let cause = too_long_due due e in (cause.0, cause.1, subst (Appends old.written new.written) cause.2 whole)
-  too_long_run (WriteFault status k text due short part rose) e = absurd (omega arith)
+  too_long_run : {status : ℕ} → HasRun words old new status → status ≡ 9 → AskForSome words × ReadTooMany old new × WroteAll old new too_long_text
+  too_long_run (Wrote status text due whole) e = let cause = too_long_due due e in (cause.0, cause.1, subst (WroteAll old new) cause.2 whole)
+  too_long_run (WriteFault status k text due part) e = absurd (omega arith)
   too_long_run (ReadFault command asks few rose nothing) e = absurd (omega arith)
-  too_long_run (NoMemory nothing) e = absurd (omega arith)
+  too_long_run (NoMemory few same nothing) e = absurd (omega arith)
 
   -- a run over a source that tells its bytes, of which too many were taken
   module _ (bytes : List ℕ) (told : old.left ≡ Some bytes) where
     untouched : ReadNothing old new → ReadTooMany old new → ⊥
     untouched same taken =
-        let took = subst (λ left. Consumes (Some bytes) left taken.0) (same.0 ∙ told) (subst (λ left. Consumes left new.left taken.0) told taken.1.0) in
-        let none : length taken.0 ≡ length {A = ℕ} [] = one_length bytes taken.0 [] (Some bytes) took refl in
-        let size : length taken.0 ≡ MOST_BYTES + 1 = taken.1.1 in omega arith
+        let took = subst (λ left. Consumes (Some bytes) left taken.0.0) (same.0 ∙ told) (subst (λ left. Consumes left new.left taken.0.0) told taken.0.1.0) in
+        let none : length taken.0.0 ≡ length {A = ℕ} [] = one_length bytes taken.0.0 [] (Some bytes) took refl in
+        let size : length taken.0.0 ≡ most_bytes + 1 = taken.0.1.1 in omega arith
 
     many_due : {status : ℕ} {text : List ℕ} → IsDue words old new status text → ReadTooMany old new → (status ≡ 9) ⊎ ((status ≡ 7) ⊎ (status ≡ 8))
     many_due (Usage none nothing) many = absurd (untouched nothing many)
     many_due (NotBuilt more nothing) many = absurd (untouched nothing many)
     many_due (TooLong command asks also) many = inl refl
     many_due (Said command taken status text asks all output) many =
-        let same : length taken ≡ length many.0 = one_length bytes taken many.0 new.left (subst (λ left. Consumes left new.left taken) told all.1) (subst (λ left. Consumes left new.left many.0) told many.1.0) in
-        let few : length taken ≤ MOST_BYTES = all.0 in
-        let size : length many.0 ≡ MOST_BYTES + 1 = many.1.1 in absurd (omega arith)
+        let same : length taken ≡ length many.0.0 = one_length bytes taken many.0.0 new.left (subst (λ left. Consumes left new.left taken) told all.1) (subst (λ left. Consumes left new.left many.0.0) told many.0.1.0) in
+        let few : length taken ≤ most_bytes = all.0 in
+        let size : length many.0.0 ≡ most_bytes + 1 = many.0.1.1 in absurd (omega arith)
 
     many_run : {status : ℕ} → HasRun words old new status → ReadTooMany old new → (status ≡ 9) ⊎ ((status ≡ 7) ⊎ (status ≡ 8))
     many_run (Wrote status text due whole) many = many_due due many
-    many_run (WriteFault status k text due short part rose) many = inr (inl refl)
+    many_run (WriteFault status k text due part) many = inr (inl refl)
     many_run (ReadFault command asks few rose nothing) many =
-        let same : length few.0 ≡ length many.0 = one_length bytes few.0 many.0 new.left (subst (λ left. Consumes left new.left few.0) told few.1.0) (subst (λ left. Consumes left new.left many.0) told many.1.0) in
-        let less : length few.0 ≤ MOST_BYTES = few.1.1 in
-        let size : length many.0 ≡ MOST_BYTES + 1 = many.1.1 in absurd (omega arith)
-    many_run (NoMemory nothing) many = inr (inr refl)
+        let same : length few.0 ≡ length many.0.0 = one_length bytes few.0 many.0.0 new.left (subst (λ left. Consumes left new.left few.0) told few.1.0) (subst (λ left. Consumes left new.left many.0.0) told many.0.1.0) in
+        let less : length few.0 ≤ most_bytes = few.1.1 in
+        let size : length many.0.0 ≡ most_bytes + 1 = many.0.1.1 in absurd (omega arith)
+    many_run (NoMemory few same nothing) many = inr (inr refl)
 
     -- and one that has too many
-    module _ (many : MOST_BYTES < length bytes) (asks : AskForSome words) where
+    module _ (many : most_bytes < length bytes) (asks : AskForSome words) where
       more_than_all : {status : ℕ} {text : List ℕ} → IsDue words old new status text → (status ≡ 9) × (text ≡ too_long_text)
       more_than_all (Usage none nothing) = absurd (usage-not-read asks.0 none asks.1)
       more_than_all (NotBuilt more nothing) = absurd (more-not-read asks.0 more asks.1)
@@ -225,14 +238,14 @@ module _ (words : List (List ℕ)) (old new : Ends) where
       more_than_all (Said command taken status text also all output) =
           let same : taken ≡ bytes = all_taken bytes taken new.left (subst (λ left. Consumes left new.left taken) told all.1) all.2 in
           let size : length taken ≡ length bytes = ap length same in
-          let few : length taken ≤ MOST_BYTES = all.0 in absurd (omega arith)
+          let few : length taken ≤ most_bytes = all.0 in absurd (omega arith)
 
       many_completes : {status : ℕ} → HasRun words old new status → ¬ Rises old.read_faults new.read_faults → ¬ Rises old.write_faults new.write_faults →
-          (status ≡ 8) ⊎ ((status ≡ 9) × Appends old.written new.written too_long_text)
-      many_completes (Wrote status text due whole) no_read no_write = let is = more_than_all due in inr (is.0, subst (Appends old.written new.written) is.1 whole)
-      many_completes (WriteFault status k text due short part rose) no_read no_write = absurd (no_write rose)
+          (status ≡ 8) ⊎ ((status ≡ 9) × WroteAll old new too_long_text)
+      many_completes (Wrote status text due whole) no_read no_write = let is = more_than_all due in inr (is.0, subst (WroteAll old new) is.1 whole)
+      many_completes (WriteFault status k text due part) no_read no_write = absurd (no_write part.2)
       many_completes (ReadFault command also few rose nothing) no_read no_write = absurd (no_read rose)
-      many_completes (NoMemory nothing) no_read no_write = inl refl
+      many_completes (NoMemory few same nothing) no_read no_write = inl refl
 
   -- the statuses of bytes
   all_read_due : {status : ℕ} {text : List ℕ} → IsDue words old new status text → is_of_bytes status ≡ true →
@@ -243,11 +256,11 @@ module _ (words : List (List ℕ)) (old new : Ends) where
   all_read_due (Said command bytes status text asks all output) h = (command, bytes, asks, all, output)
 
   all_read_run : {status : ℕ} → HasRun words old new status → is_of_bytes status ≡ true →
-      (command : Command) × (bytes text : List ℕ) × AskFor words command × ReadAll old new bytes × IsOutput command bytes status text × Appends old.written new.written text
+      (command : Command) × (bytes text : List ℕ) × AskFor words command × ReadAll old new bytes × IsOutput command bytes status text × WroteAll old new text
   all_read_run (Wrote status text due whole) h = let cause = all_read_due due h in (cause.0, cause.1, text, cause.2, cause.3, cause.4, whole)
-  all_read_run (WriteFault status k text due short part rose) h = absurd (cc)
+  all_read_run (WriteFault status k text due part) h = absurd (cc)
   all_read_run (ReadFault command asks few rose nothing) h = absurd (cc)
-  all_read_run (NoMemory nothing) h = absurd (cc)
+  all_read_run (NoMemory few same nothing) h = absurd (cc)
 
   -- each status is known
   known_due : (status : ℕ) → ((status ≡ 2) ⊎ ((status ≡ 9) ⊎ (status ≡ 10))) ⊎ (is_of_bytes status ≡ true) →
@@ -259,29 +272,29 @@ module _ (words : List (List ℕ)) (old new : Ends) where
 
   known_run : {status : ℕ} → HasRun words old new status → (is_of_bytes status || list_any (λ s. s == status) (2 ∷ 6 ∷ 7 ∷ 8 ∷ 9 ∷ 10 ∷ [])) ≡ true
   known_run (Wrote status text due whole) = known_due status (due_status due)
-  known_run (WriteFault status k text due short part rose) = refl
+  known_run (WriteFault status k text due part) = refl
   known_run (ReadFault command asks few rose nothing) = refl
-  known_run (NoMemory nothing) = refl
+  known_run (NoMemory few same nothing) = refl
 
   -- a run over a source that tells its bytes
-  module _ (command : Command) (bytes : List ℕ) (asks : AskFor words command) (told : old.left ≡ Some bytes) (few : length bytes ≤ MOST_BYTES) where
+  module _ (command : Command) (bytes : List ℕ) (asks : AskFor words command) (told : old.left ≡ Some bytes) (few : length bytes ≤ most_bytes) where
     completes_due : {status : ℕ} {text : List ℕ} → IsDue words old new status text → IsOutput command bytes status text
     completes_due (Usage none nothing) = absurd (usage-not-read command none asks)
     completes_due (NotBuilt more nothing) = absurd (more-not-read command more asks)
     completes_due (TooLong also same many) =
-        let within : length many.0 ≤ length bytes = taken_within bytes many.0 new.left (subst (λ left. Consumes left new.left many.0) told many.1.0) in
-        let size : length many.0 ≡ MOST_BYTES + 1 = many.1.1 in absurd (omega arith)
+        let within : length many.0.0 ≤ length bytes = taken_within bytes many.0.0 new.left (subst (λ left. Consumes left new.left many.0.0) told many.0.1.0) in
+        let size : length many.0.0 ≡ most_bytes + 1 = many.0.1.1 in absurd (omega arith)
     completes_due (Said also taken status text too all output) =
         let same : taken ≡ bytes = all_taken bytes taken new.left (subst (λ left. Consumes left new.left taken) told all.1) all.2 in
         let one : also ≡ command = one-command also command too asks in
         subst (λ c. IsOutput c bytes status text) one (subst (λ bs. IsOutput also bs status text) same output)
 
     completes_run : {status : ℕ} → HasRun words old new status → ¬ Rises old.read_faults new.read_faults → ¬ Rises old.write_faults new.write_faults →
-        (status ≡ 8) ⊎ ((text : List ℕ) × IsOutput command bytes status text × Appends old.written new.written text)
+        (status ≡ 8) ⊎ ((text : List ℕ) × IsOutput command bytes status text × WroteAll old new text)
     completes_run (Wrote status text due whole) no_read no_write = inr (text, completes_due due, whole)
-    completes_run (WriteFault status k text due short part rose) no_read no_write = absurd (no_write rose)
+    completes_run (WriteFault status k text due part) no_read no_write = absurd (no_write part.2)
     completes_run (ReadFault also same fewer rose nothing) no_read no_write = absurd (no_read rose)
-    completes_run (NoMemory nothing) no_read no_write = inl refl
+    completes_run (NoMemory few same nothing) no_read no_write = inl refl
 
 pub usage : UsageIsOfTheWords
 usage words old new run = usage_run words old new run refl
@@ -300,6 +313,9 @@ read_fault words old new run = read_fault_run words old new run refl
 
 pub write_fault : WriteFaultIsOfTheSink
 write_fault words old new run = write_fault_run words old new run refl
+
+pub counts : CountsStay
+counts words old new status run = counts_run words old new run
 
 pub too_long : TooLongIsOfTheBytes
 too_long words old new run = too_long_run words old new run refl

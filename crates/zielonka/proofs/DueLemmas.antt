@@ -12,10 +12,8 @@ use Rattle.za_script.specs.declared.answer.Answer.{Answer}
 use Rattle.za_script.specs.declared.answer.Answer.TheVariants.{Accept, Reject, Stuck}
 use Rattle.za_script.specs.Scripts.{Weaves}
 use Rattle.za_script.specs.ScriptLists.{script_of}
-use Rattle.za_script.specs.Woven.{WovenWord}
-use Rattle.za_script.specs.Answer.{IsAnswer}
-use Rattle.za_report.specs.Texts.{weave_of}
-use Rattle.zielonka.specs.Output.{answer_by}
+use Rattle.za_script.specs.Woven.{WovenWord, weave_of}
+use Rattle.za_script.specs.Answer.{IsAnswer, answer_by}
 use Rattle.zielonka.proofs.AnswerLemmas.{weave_answers}
 
 -- what holds of each value holds of the one in an Ok

@@ -3,5 +3,6 @@ pub mod DueLemmas
 pub mod RunLemmas
 pub mod Causes
 pub mod OneOutput
+pub mod SomeOutput
+pub mod Exactly
 pub mod Entries
-pub mod HandOut

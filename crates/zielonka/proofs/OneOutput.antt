@@ -5,7 +5,7 @@ use Rattle.za_alpha.specs.Words.{IsWord}
 use Rattle.za_alpha.specs.Alphabet.{DistributedAlphabet, loc_of}
 use Rattle.za_dfa.specs.Automata.{Automaton, IsTraceClosed}
 use Rattle.za_dfa.specs.Tables.{CompleteDfa, automaton_of}
-use Rattle.za_min.specs.Minimal.{MinimalDfa}
+use Rattle.za_min.specs.Minimal.{MinimalDfa, IsMinimalOf}
 use Rattle.za_min.proofs.Canonical.{minimal_dfas_are_one}
 use Rattle.za_closure.specs.Breaks.{Break, IsLeastBreak, left_word, right_word}
 use Rattle.za_closure.proofs.BreakLemmas.{least_breaks_are_one}
@@ -19,7 +19,7 @@ use Rattle.za_script.specs.Answer.{IsAnswer}
 use Rattle.za_report.specs.Texts.{answer_text, check_text, open_text, refused_text}
 use Rattle.zielonka.specs.declared.request.Command.{Command}
 use Rattle.zielonka.specs.LocalStates.{locals_text}
-use Rattle.zielonka.specs.Output.{IsMinimalOf, IsAnswered, Ran, Checked, Shown, IsDueFor, Open, Answered, Refused, Read, given, word_of, status_of}
+use Rattle.zielonka.specs.Output.{IsAnswered, Ran, Checked, Told, IsDueFor, Open, Answered, Refused, Read, given, woven_of, status_of}
 use Rattle.zielonka.specs.Laws.{OutputIsOne}
 
 -- one status and one text
@@ -51,11 +51,11 @@ answer-one loc d scripts Stuck Stuck g h = refl
 answered-one : (job : JobData) (command : Command) (s t : ℕ) (x y : List ℕ) → IsAnswered job command s x → IsAnswered job command t y → IsOne s t x y
 answered-one job command s t x y (Ran a right) (Ran b also) =
     let one = answer-one (loc_of job.lang.alphabet) (automaton_of (given job)) _ a b right also in
-    (ap status_of one, ap (λ k. answer_text job.lang.alphabet job.scripts (word_of job) k 0) one)
+    (ap status_of one, ap (λ k. answer_text job.lang.alphabet job.scripts (woven_of job) k 0) one)
 answered-one job command s t x y (Checked d m) (Checked e n) =
     (refl, ap (λ (k : CompleteDfa). check_text job.lang.alphabet k.states 0) (minimal-one d e (given job) m n))
-answered-one job command s t x y (Shown d m) (Shown e n) =
-    (refl, ap (λ (k : CompleteDfa). locals_text k (word_of job)) (minimal-one d e (given job) m n))
+answered-one job command s t x y (Told d m) (Told e n) =
+    (refl, ap (λ (k : CompleteDfa). locals_text k (woven_of job)) (minimal-one d e (given job) m n))
 
 -- a language with a break isn't closed
 not-both : (job : JobData) → IsJob job → (k : Break) → IsLeastBreak (loc_of job.lang.alphabet) (automaton_of (given job)) k →
@@ -73,7 +73,7 @@ due-one job command s t x y fine (Answered status text closed answered) (Answere
     answered-one job command status other text said answered too
 
 -- bytes are refused or read, and refused at one line
-not-read : (bytes : List ℕ) (fault : TextFault) → fault_of bytes ≡ Some fault → fault_of bytes ≡ None → ⊥
+pub not-read : (bytes : List ℕ) (fault : TextFault) → fault_of bytes ≡ Some fault → fault_of bytes ≡ None → ⊥
 not-read bytes fault some none = let both : true ≡ false = ap is_some (sym some ∙ none) in absurd (cc)
 
 pub output_is_one : OutputIsOne

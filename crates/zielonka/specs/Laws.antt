@@ -1,59 +1,86 @@
 -- The causes of each status.
-use Rattle.std.specs.Prelude.{◌≡◌, ℕ, ◌<◌, ◌≤◌, ◌==◌, ◌||◌, ◌⊎◌, Bool, IsTrue, List, [], ◌∷◌, length, take, Some}
-use Rattle.std.specs.Io.KnownBytes.{Appends}
+use Rattle.std.specs.Prelude.{◌≡◌, ◌≢◌, ℕ, ◌<◌, ◌≤◌, ◌==◌, ◌||◌, ◌⊎◌, ◌↔◌, Bool, IsTrue, List, [], ◌∷◌, length, Some, None}
 use Rattle.std.specs.List.{list_any}
+use Rattle.za_alpha.specs.Alphabet.{loc_of}
 use Rattle.za_base.specs.Fault.{Rises}
+use Rattle.za_closure.specs.Breaks.{Break, IsBreak}
+use Rattle.za_dfa.specs.Tables.{automaton_of}
+use Rattle.za_text.specs.declared.kind.TextFault.{TextFault}
+use Rattle.za_lang.specs.Jobs.{IsJob}
+use Rattle.za_lang.specs.Documents.{fault_of, job_of}
 use Rattle.zielonka.specs.declared.request.Command.{Command}
-use Rattle.zielonka.specs.declared.run.TheConstants.{MOST_BYTES}
-use Rattle.zielonka.specs.Output.{IsOutput, usage_text, too_long_text, not_built_text}
-use Rattle.zielonka.specs.Run.{Ends, AreNoForm, AreNotBuilt, AskFor, ReadNothing, ReadAll, ReadNotTooMany, ReadTooMany, WroteNothing, IsDue, HasRun}
+use Rattle.zielonka.specs.Limits.{most_bytes}
+use Rattle.zielonka.specs.Output.{IsOutput, given, usage_text, too_long_text, not_built_text}
+use Rattle.zielonka.specs.Run.{Ends, AreNoForm, AreNotBuilt, AskFor, NoReadFailed, NoWriteFailed, ReadNothing, ReadAll, ReadNotTooMany, ReadTooMany, WroteNothing, WroteAll, WrotePart, IsDue, HasRun}
+
+-- ---- runs
 
 -- status 2 comes only of words in no form: nothing was read, and the usage text was written whole
 abbrev pub UsageIsOfTheWords : Type 0
-UsageIsOfTheWords = (words : List (List ℕ)) (old new : Ends) → HasRun words old new 2 → AreNoForm words × ReadNothing old new × Appends old.written new.written usage_text
+UsageIsOfTheWords =
+    (words : List (List ℕ)) (old new : Ends) → HasRun words old new 2 →
+    AreNoForm words × ReadNothing old new × WroteAll old new usage_text
 
 -- words in no form have no status but 2, 7 and 8
 abbrev pub WordsDecideTheUsage : Type 0
-WordsDecideTheUsage = (words : List (List ℕ)) (old new : Ends) (status : ℕ) → HasRun words old new status → AreNoForm words → (status ≡ 2) ⊎ ((status ≡ 7) ⊎ (status ≡ 8))
+WordsDecideTheUsage =
+    (words : List (List ℕ)) (old new : Ends) (status : ℕ) → HasRun words old new status → AreNoForm words →
+    (status ≡ 2) ⊎ ((status ≡ 7) ⊎ (status ≡ 8))
 
 -- status 10 comes only of words in a form that isn't built: nothing was read, and its line was written whole
 abbrev pub NotBuiltIsOfTheWords : Type 0
-NotBuiltIsOfTheWords = (words : List (List ℕ)) (old new : Ends) → HasRun words old new 10 → AreNotBuilt words × ReadNothing old new × Appends old.written new.written not_built_text
+NotBuiltIsOfTheWords =
+    (words : List (List ℕ)) (old new : Ends) → HasRun words old new 10 →
+    AreNotBuilt words × ReadNothing old new × WroteAll old new not_built_text
 
 -- and such words have no status but 10, 7 and 8
 abbrev pub WordsDecideNotBuilt : Type 0
-WordsDecideNotBuilt = (words : List (List ℕ)) (old new : Ends) (status : ℕ) → HasRun words old new status → AreNotBuilt words → (status ≡ 10) ⊎ ((status ≡ 7) ⊎ (status ≡ 8))
+WordsDecideNotBuilt =
+    (words : List (List ℕ)) (old new : Ends) (status : ℕ) → HasRun words old new status → AreNotBuilt words →
+    (status ≡ 10) ⊎ ((status ≡ 7) ⊎ (status ≡ 8))
 
 -- the words ask for some command that reads the source
 abbrev pub AskForSome : List (List ℕ) → Type 0
 AskForSome words = (command : Command) × AskFor words command
 
--- status 6 comes only where the source's count of faults rose, before too many bytes were taken, and nothing was written
+-- status 6 comes only where the source's count of faults rose before too many bytes were taken; nothing was written
 abbrev pub ReadFaultIsOfTheSource : Type 0
-ReadFaultIsOfTheSource = (words : List (List ℕ)) (old new : Ends) → HasRun words old new 6 → AskForSome words × ReadNotTooMany old new × Rises old.read_faults new.read_faults × WroteNothing old new
+ReadFaultIsOfTheSource =
+    (words : List (List ℕ)) (old new : Ends) → HasRun words old new 6 →
+    AskForSome words × ReadNotTooMany old new × Rises old.read_faults new.read_faults × WroteNothing old new
 
 -- status 7 comes only where the sink's count of faults rose, and a proper prefix of a text that is due was written
 abbrev pub WriteFaultIsOfTheSink : Type 0
 WriteFaultIsOfTheSink =
     (words : List (List ℕ)) (old new : Ends) → HasRun words old new 7 →
-    (status k : ℕ) × (text : List ℕ) × IsDue words old new status text × (k < length text) × Appends old.written new.written (take k text) × Rises old.write_faults new.write_faults
+    (status k : ℕ) × (text : List ℕ) × IsDue words old new status text × WrotePart old new text k
+
+-- with any status but 6 the source's count of faults is what it was, and with any but 7 the sink's is
+abbrev pub CountsStay : Type 0
+CountsStay =
+    (words : List (List ℕ)) (old new : Ends) (status : ℕ) → HasRun words old new status →
+    (status ≢ 6 → NoReadFailed old new) × (status ≢ 7 → NoWriteFailed old new)
 
 -- status 9 comes only where one byte more than the limit was taken, and the refusal was written whole
 abbrev pub TooLongIsOfTheBytes : Type 0
-TooLongIsOfTheBytes = (words : List (List ℕ)) (old new : Ends) → HasRun words old new 9 → AskForSome words × ReadTooMany old new × Appends old.written new.written too_long_text
+TooLongIsOfTheBytes =
+    (words : List (List ℕ)) (old new : Ends) → HasRun words old new 9 →
+    AskForSome words × ReadTooMany old new × WroteAll old new too_long_text
 
 -- where the source tells its bytes and too many were taken, the status is 9, 7 or 8
 abbrev pub TooManyDecide : Type 0
 TooManyDecide =
-    (words : List (List ℕ)) (old new : Ends) (status : ℕ) (bytes : List ℕ) → HasRun words old new status → old.left ≡ Some bytes → ReadTooMany old new →
-    (status ≡ 9) ⊎ ((status ≡ 7) ⊎ (status ≡ 8))
+    (words : List (List ℕ)) (old new : Ends) (status : ℕ) (bytes : List ℕ) → HasRun words old new status →
+    old.left ≡ Some bytes → ReadTooMany old new → (status ≡ 9) ⊎ ((status ≡ 7) ⊎ (status ≡ 8))
 
--- where it has too many, and neither count of faults rose, a command that reads them ends with want of memory or refuses
--- them
+-- where it has too many, and neither count of faults rose, a command that reads them ends with want of memory or
+-- refuses them
 abbrev pub TooManyComplete : Type 0
 TooManyComplete =
-    (words : List (List ℕ)) (old new : Ends) (status : ℕ) (bytes : List ℕ) → HasRun words old new status → AskForSome words → old.left ≡ Some bytes → MOST_BYTES < length bytes →
-    ¬ Rises old.read_faults new.read_faults → ¬ Rises old.write_faults new.write_faults → (status ≡ 8) ⊎ ((status ≡ 9) × Appends old.written new.written too_long_text)
+    (words : List (List ℕ)) (old new : Ends) (status : ℕ) (bytes : List ℕ) → HasRun words old new status →
+    AskForSome words → old.left ≡ Some bytes → most_bytes < length bytes →
+    ¬ Rises old.read_faults new.read_faults → ¬ Rises old.write_faults new.write_faults →
+    (status ≡ 8) ⊎ ((status ≡ 9) × WroteAll old new too_long_text)
 
 -- status 8 comes with nothing written
 abbrev pub NoMemoryWritesNothing : Type 0
@@ -67,21 +94,52 @@ is_of_bytes status = list_any (λ s. s == status) (0 ∷ 1 ∷ 3 ∷ 4 ∷ 5 ∷
 abbrev pub AnswerIsOfAllBytes : Type 0
 AnswerIsOfAllBytes =
     (words : List (List ℕ)) (old new : Ends) (status : ℕ) → HasRun words old new status → IsTrue (is_of_bytes status) →
-    (command : Command) × (bytes text : List ℕ) × AskFor words command × ReadAll old new bytes × IsOutput command bytes status text × Appends old.written new.written text
+    (command : Command) × (bytes text : List ℕ) × AskFor words command × ReadAll old new bytes
+    × IsOutput command bytes status text × WroteAll old new text
 
 -- there is no other status
 abbrev pub StatusesAreKnown : Type 0
-StatusesAreKnown = (words : List (List ℕ)) (old new : Ends) (status : ℕ) → HasRun words old new status → IsTrue (is_of_bytes status || list_any (λ s. s == status) (2 ∷ 6 ∷ 7 ∷ 8 ∷ 9 ∷ 10 ∷ []))
+StatusesAreKnown =
+    (words : List (List ℕ)) (old new : Ends) (status : ℕ) → HasRun words old new status →
+    IsTrue (is_of_bytes status || list_any (λ s. s == status) (2 ∷ 6 ∷ 7 ∷ 8 ∷ 9 ∷ 10 ∷ []))
 
 -- where the source tells its bytes and has not too many, and neither count of faults rose, a command that reads them
 -- ends with want of memory or says what is due for all bytes
 abbrev pub RunCompletes : Type 0
 RunCompletes =
-    (words : List (List ℕ)) (old new : Ends) (status : ℕ) (command : Command) (bytes : List ℕ) → HasRun words old new status → AskFor words command → old.left ≡ Some bytes →
-    length bytes ≤ MOST_BYTES → ¬ Rises old.read_faults new.read_faults → ¬ Rises old.write_faults new.write_faults →
-    (status ≡ 8) ⊎ ((text : List ℕ) × IsOutput command bytes status text × Appends old.written new.written text)
+    (words : List (List ℕ)) (old new : Ends) (status : ℕ) (command : Command) (bytes : List ℕ) →
+    HasRun words old new status → AskFor words command → old.left ≡ Some bytes → length bytes ≤ most_bytes →
+    ¬ Rises old.read_faults new.read_faults → ¬ Rises old.write_faults new.write_faults →
+    (status ≡ 8) ⊎ ((text : List ℕ) × IsOutput command bytes status text × WroteAll old new text)
+
+-- ---- what is due
 
 -- for a command and bytes one status and one text are due
 abbrev pub OutputIsOne : Type 0
 OutputIsOne =
-    (command : Command) (bytes : List ℕ) (s t : ℕ) (x y : List ℕ) → IsOutput command bytes s x → IsOutput command bytes t y → (s ≡ t) × (x ≡ y)
+    (command : Command) (bytes : List ℕ) (s t : ℕ) (x y : List ℕ) → IsOutput command bytes s x →
+    IsOutput command bytes t y → (s ≡ t) × (x ≡ y)
+
+-- and some status and some text are
+abbrev pub SomethingIsDue : Type 0
+SomethingIsDue =
+    (command : Command) (bytes : List ℕ) → (status : ℕ) × (text : List ℕ) × IsOutput command bytes status text
+
+-- the status that is due is 4 exactly where the bytes are no document: some line of theirs is wrong
+abbrev pub RefusedExactly : Type 0
+RefusedExactly =
+    (command : Command) (bytes : List ℕ) (status : ℕ) (text : List ℕ) → IsOutput command bytes status text →
+    ((status ≡ 4) ↔ ((fault : TextFault) × (fault_of bytes ≡ Some fault)))
+
+-- the bytes are a job whose language has a break
+abbrev pub HasBrokenLanguage : List ℕ → Type 0
+HasBrokenLanguage bytes =
+    let job = job_of bytes in
+    (fault_of bytes ≡ None) × IsJob job
+    × ((k : Break) × IsBreak (loc_of job.lang.alphabet) (automaton_of (given job)) k)
+
+-- it is 5 exactly where they are a job whose language has a break: two equivalent words of which one is accepted
+abbrev pub OpenExactly : Type 0
+OpenExactly =
+    (command : Command) (bytes : List ℕ) (status : ℕ) (text : List ℕ) → IsOutput command bytes status text →
+    ((status ≡ 5) ↔ HasBrokenLanguage bytes)

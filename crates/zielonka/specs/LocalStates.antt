@@ -1,38 +1,31 @@
 -- The text that says what each process knows.
-use Rattle.std.specs.Prelude.{ℕ, ◌+◌, ◌-◌, ◌/◌, ◌%◌, ◌^◌, ◌==◌, ◌++◌, List, [], ◌∷◌, codes, decimal, length, map, slice_index, Option, Some, None, if◌then◌else◌}
+use Rattle.std.specs.Prelude.{ℕ, ◌++◌, List, [], ◌∷◌, codes, decimal, length, map, slice_index, Option, Some, None}
 use Rattle.std.specs.List.{range_with_len}
-use Rattle.za_alpha.specs.Alphabet.{DistributedAlphabet, loc_of, name_at}
+use Rattle.za_alpha.specs.Alphabet.{DistributedAlphabet, loc_of}
 use Rattle.za_dfa.specs.Tables.{CompleteDfa}
 use Rattle.za_order.specs.Views.{participants}
 use Rattle.za_order.specs.Entries.{primary}
 use Rattle.za_order.specs.Labels.{label}
 use Rattle.za_local.specs.Locals.{view_state_after}
 use Rattle.za_text.specs.Printed.{text_of}
+use Rattle.za_write.specs.Events.{event_word}
 
 -- an event of the word: its letter's name, a point and its label; a hyphen where there is none
 abbrev pub entry_word : DistributedAlphabet → List ℕ → Option ℕ → List ℕ
 entry_word alphabet w None = codes "-"
-entry_word alphabet w (Some i) = name_at alphabet.letters (slice_index w i) ++ codes "." ++ decimal (label (loc_of alphabet) alphabet.processes w i)
+entry_word alphabet w (Some i) = event_word alphabet (slice_index w i) (label (loc_of alphabet) alphabet.processes w i)
 
 -- what p knows after the word: the latest event of each process
 abbrev pub entry_words : DistributedAlphabet → List ℕ → ℕ → List (List ℕ)
 entry_words alphabet w p =
-    map (λ q. entry_word alphabet w (primary (participants (loc_of alphabet) w) (length w) p q)) (range_with_len 0 alphabet.processes)
+    map (λ q. entry_word alphabet w (primary (participants (loc_of alphabet) w) (length w) p q))
+    (range_with_len 0 alphabet.processes)
 
 -- the line of p: that, and the state after all events that it knows
 abbrev pub local_line : CompleteDfa → List ℕ → ℕ → List (List ℕ)
-local_line d w p = (codes "p" ++ decimal p) ∷ (entry_words d.alphabet w p ++ codes "view" ∷ decimal (view_state_after d w p) ∷ [])
+local_line d w p =
+    (codes "p" ++ decimal p) ∷ (entry_words d.alphabet w p ++ codes "view" ∷ decimal (view_state_after d w p) ∷ [])
 
 -- the lines of all processes
 abbrev pub locals_text : CompleteDfa → List ℕ → List ℕ
 locals_text d w = text_of (map (local_line d w) (range_with_len 0 d.alphabet.processes))
-
--- an event by its number: the letter and the label that the number has; a hyphen for 0
-abbrev pub number_word : DistributedAlphabet → ℕ → List ℕ
-number_word alphabet v =
-    let labels = alphabet.processes ^ 3 + 1 in
-    if v == 0 then codes "-" else name_at alphabet.letters ((v - 1) / labels) ++ codes "." ++ decimal ((v - 1) % labels)
-
--- the line of a process by the numbers that it keeps and a state
-abbrev pub kept_line : DistributedAlphabet → ℕ → List ℕ → ℕ → List (List ℕ)
-kept_line alphabet p numbers state = (codes "p" ++ decimal p) ∷ (map (number_word alphabet) numbers ++ codes "view" ∷ decimal state ∷ [])

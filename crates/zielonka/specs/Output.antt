@@ -1,20 +1,20 @@
 -- What is due for the bytes of a text.
-use Rattle.std.specs.Prelude.{◌≡◌, ℕ, List, codes, Some, None, if◌then◌else◌}
+use Rattle.std.specs.Prelude.{◌≡◌, ℕ, List, codes, Some, None}
 use Rattle.za_alpha.specs.Alphabet.{loc_of}
-use Rattle.za_dfa.specs.Automata.{Automaton, is_accepted, IsTraceClosed}
-use Rattle.za_dfa.specs.Tables.{CompleteDfa, IsComplete, automaton_of}
-use Rattle.za_min.specs.Minimal.{HaveSameLanguage, IsMinimal, IsNumberedBy}
+use Rattle.za_dfa.specs.Automata.{IsTraceClosed}
+use Rattle.za_dfa.specs.Tables.{CompleteDfa, automaton_of}
+use Rattle.za_dfa.specs.Partials.{completion}
+use Rattle.za_min.specs.Minimal.{IsMinimalOf}
 use Rattle.za_closure.specs.Breaks.{Break, IsLeastBreak, left_word, right_word}
 use Rattle.za_text.specs.declared.kind.TextFault.{TextFault}
-use Rattle.za_lang.specs.Langs.{completion}
 use Rattle.za_lang.specs.Jobs.{JobData, IsJob}
 use Rattle.za_lang.specs.Documents.{fault_of, job_of}
 use Rattle.za_script.specs.declared.answer.Answer.{Answer}
 use Rattle.za_script.specs.declared.answer.Answer.TheVariants.{Accept, Reject, Stuck}
 use Rattle.za_script.specs.Answer.{IsAnswer}
 use Rattle.za_script.specs.ScriptLists.{script_of}
-use Rattle.za_script.specs.Woven.{WovenWord}
-use Rattle.za_report.specs.Texts.{weave_of, answer_text, check_text, open_text, refused_text}
+use Rattle.za_script.specs.Woven.{weave_of}
+use Rattle.za_report.specs.Texts.{answer_text, check_text, open_text, refused_text}
 use Rattle.zielonka.specs.declared.request.Command.{Command}
 use Rattle.zielonka.specs.declared.request.Command.TheVariants.{Solo, Check, Locals}
 use Rattle.zielonka.specs.LocalStates.{locals_text}
@@ -32,18 +32,9 @@ not_built_text = codes "not built\n"
 abbrev pub given : JobData → CompleteDfa
 given job = completion job.lang
 
--- the minimal automaton of the language of another, its states numbered by their least access words
-pub record IsMinimalOf (d other : CompleteDfa) : Type 0 where
-  pub complete : IsComplete d
-  pub alphabet : d.alphabet ≡ other.alphabet
-  pub language : HaveSameLanguage (automaton_of d) (automaton_of other)
-  pub minimal : IsMinimal (automaton_of d)
-  pub access : List (List ℕ)
-  pub numbered : IsNumberedBy (automaton_of d) access
-
 -- the word that the job's scripts weave
-abbrev pub word_of : JobData → List ℕ
-word_of job = weave_of job.lang.alphabet job.scripts
+abbrev pub woven_of : JobData → List ℕ
+woven_of job = weave_of job.lang.alphabet job.scripts
 
 -- the status of an answer
 abbrev pub status_of : Answer → ℕ
@@ -51,19 +42,17 @@ status_of Accept = 0
 status_of Reject = 1
 status_of Stuck = 3
 
--- the answer that a woven word gives: stuck where scripts are left, else as the automaton says of the word
-abbrev pub answer_by : Automaton → WovenWord → Answer
-answer_by d woven = if woven.whole then (if is_accepted d woven.word then Accept else Reject) else Stuck
-
 -- what a command answers to a job whose language is trace-closed
 pub data IsAnswered (job : JobData) : Command → ℕ → List ℕ → Type 0 where
   -- the answer of the automaton as given to the scripts, over all words that weave them
-  Ran : (answer : Answer) → IsAnswer (loc_of job.lang.alphabet) (automaton_of (given job)) (script_of job.scripts) answer →
-      IsAnswered job Solo (status_of answer) (answer_text job.lang.alphabet job.scripts (word_of job) answer 0)
+  Ran : (answer : Answer) →
+      IsAnswer (loc_of job.lang.alphabet) (automaton_of (given job)) (script_of job.scripts) answer →
+      IsAnswered job Solo (status_of answer) (answer_text job.lang.alphabet job.scripts (woven_of job) answer 0)
   -- how many states the minimal automaton has
-  Checked : (d : CompleteDfa) → IsMinimalOf d (given job) → IsAnswered job Check 0 (check_text job.lang.alphabet d.states 0)
+  Checked : (d : CompleteDfa) → IsMinimalOf d (given job) →
+      IsAnswered job Check 0 (check_text job.lang.alphabet d.states 0)
   -- what each process knows after the woven word, and the state of the minimal automaton after its view
-  Shown : (d : CompleteDfa) → IsMinimalOf d (given job) → IsAnswered job Locals 0 (locals_text d (word_of job))
+  Told : (d : CompleteDfa) → IsMinimalOf d (given job) → IsAnswered job Locals 0 (locals_text d (woven_of job))
 
 -- the status and the text that are due for a command and a job
 pub data IsDueFor (command : Command) (job : JobData) : ℕ → List ℕ → Type 0 where
@@ -71,12 +60,13 @@ pub data IsDueFor (command : Command) (job : JobData) : ℕ → List ℕ → Typ
   Open : (k : Break) → IsLeastBreak (loc_of job.lang.alphabet) (automaton_of (given job)) k →
       IsDueFor command job 5 (open_text job.lang.alphabet (left_word k) (right_word k))
   -- its language is trace-closed, and the command is answered
-  Answered : (status : ℕ) (text : List ℕ) → IsTraceClosed (loc_of job.lang.alphabet) (automaton_of (given job)) → IsAnswered job command status text →
-      IsDueFor command job status text
+  Answered : (status : ℕ) (text : List ℕ) → IsTraceClosed (loc_of job.lang.alphabet) (automaton_of (given job)) →
+      IsAnswered job command status text → IsDueFor command job status text
 
 -- the status and the text that are due for a command and these bytes
 pub data IsOutput (command : Command) (bytes : List ℕ) : ℕ → List ℕ → Type 0 where
   -- they are no document: the first wrong line, and its first kind
   Refused : (fault : TextFault) → fault_of bytes ≡ Some fault → IsOutput command bytes 4 (refused_text fault)
   -- they are a job
-  Read : (status : ℕ) (text : List ℕ) → fault_of bytes ≡ None → IsJob (job_of bytes) → IsDueFor command (job_of bytes) status text → IsOutput command bytes status text
+  Read : (status : ℕ) (text : List ℕ) → fault_of bytes ≡ None → IsJob (job_of bytes) →
+      IsDueFor command (job_of bytes) status text → IsOutput command bytes status text

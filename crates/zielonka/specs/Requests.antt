@@ -1,9 +1,9 @@
--- What the words of the command ask for.
+-- What the command words ask for.
 use Rattle.std.specs.Prelude.{ℕ, ◌==◌, List, if◌then◌else◌}
 use Rattle.std.specs.Option.{option_map_or}
-use Rattle.za_words.specs.declared.plan.Plan.{Plan}
-use Rattle.za_words.specs.declared.plan.Plan.TheVariants.{Solo, Run, Check, Locals, Journal, Audit, Gen}
-use Rattle.za_words.specs.Plans.{plan_of}
+use Rattle.za_command.specs.declared.plan.Plan.{Plan}
+use Rattle.za_command.specs.declared.plan.Plan.TheVariants.{Solo, Run, Check, Locals, Journal, Audit, Gen}
+use Rattle.za_command.specs.Plans.{plan_of}
 use Rattle.zielonka.specs.declared.request.Command as the
 use Rattle.zielonka.specs.declared.request.Command.TheVariants as command
 use Rattle.zielonka.specs.declared.request.Request.{Request}
@@ -23,6 +23,6 @@ request_by (Journal cache) = Usage
 request_by Audit = NotBuilt
 request_by (Gen number) = NotBuilt
 
--- words in no form ask for the usage line
+-- command words in no form ask for the usage line
 abbrev pub request_in : List (List ℕ) → Request
 request_in words = option_map_or request_by (plan_of words) Usage

@@ -3,7 +3,7 @@ use Rattle.std.specs.Prelude.{◌≡◌, ℕ, ◌<◌, ◌≤◌, ◌+◌, List,
 use Rattle.std.specs.Io.KnownBytes.{Consumes, Appends, IsAtEnd}
 use Rattle.za_base.specs.Read.{Took}
 use Rattle.za_base.specs.Fault.{Rises}
-use Rattle.zielonka.specs.declared.run.TheConstants.{MOST_BYTES}
+use Rattle.zielonka.specs.Limits.{most_bytes}
 use Rattle.zielonka.specs.declared.request.Command.{Command}
 use Rattle.zielonka.specs.declared.request.Request.TheVariants.{Usage as AsksUsage, NotBuilt as AsksMore, Answer as Asks}
 use Rattle.zielonka.specs.Requests.{request_in}
@@ -28,51 +28,61 @@ AreNotBuilt words = request_in words ≡ AsksMore
 abbrev pub AskFor : List (List ℕ) → Command → Type 0
 AskFor words command = request_in words ≡ Asks command
 
+-- no read failed, and no write: the count of faults is what it was
+abbrev pub NoReadFailed : Ends → Ends → Type 0
+NoReadFailed old new = new.read_faults ≡ old.read_faults
+
+abbrev pub NoWriteFailed : Ends → Ends → Type 0
+NoWriteFailed old new = new.write_faults ≡ old.write_faults
+
 -- the source was not read
 abbrev pub ReadNothing : Ends → Ends → Type 0
-ReadNothing old new = (new.left ≡ old.left) × (new.read_faults ≡ old.read_faults)
+ReadNothing old new = (new.left ≡ old.left) × NoReadFailed old new
 
 -- these are all the bytes up to the source's end, and not too many
 abbrev pub ReadAll : Ends → Ends → List ℕ → Type 0
-ReadAll old new bytes = (length bytes ≤ MOST_BYTES) × Consumes old.left new.left bytes × IsAtEnd new.left
+ReadAll old new bytes =
+    (length bytes ≤ most_bytes) × Consumes old.left new.left bytes × IsAtEnd new.left × NoReadFailed old new
 
 -- no more bytes than the limit were taken from the source
 abbrev pub ReadNotTooMany : Ends → Ends → Type 0
-ReadNotTooMany old new = Took old.left new.left (λ n. n ≤ MOST_BYTES)
+ReadNotTooMany old new = Took old.left new.left (λ n. n ≤ most_bytes)
 
 -- one byte more than the limit was taken from the source
 abbrev pub ReadTooMany : Ends → Ends → Type 0
-ReadTooMany old new = Took old.left new.left (λ n. n ≡ MOST_BYTES + 1)
+ReadTooMany old new = Took old.left new.left (λ n. n ≡ most_bytes + 1) × NoReadFailed old new
 
 -- nothing was written
 abbrev pub WroteNothing : Ends → Ends → Type 0
-WroteNothing old new = (new.written ≡ old.written) × (new.write_faults ≡ old.write_faults)
+WroteNothing old new = (new.written ≡ old.written) × NoWriteFailed old new
 
--- a text was written whole, and the status is the one given; or a proper prefix of it, and then the sink's count of
--- faults rose, and the status is 7
-pub data HasSaid (status : ℕ) (text : List ℕ) (written now : Option (List ℕ)) (before after : ℕ) : ℕ → Type 0 where
-  Whole : Appends written now text → HasSaid status text written now before after status
-  Part : (k : ℕ) → k < length text → Appends written now (take k text) → Rises before after → HasSaid status text written now before after 7
+-- the text was written whole
+abbrev pub WroteAll : Ends → Ends → List ℕ → Type 0
+WroteAll old new text = Appends old.written new.written text × NoWriteFailed old new
+
+-- the first k bytes of the text were written, fewer than all, and then the sink's count of faults rose
+abbrev pub WrotePart : Ends → Ends → List ℕ → ℕ → Type 0
+WrotePart old new text k =
+    (k < length text) × Appends old.written new.written (take k text) × Rises old.write_faults new.write_faults
 
 -- the status and the text that are due
 pub data IsDue (words : List (List ℕ)) (old new : Ends) : ℕ → List ℕ → Type 0 where
   Usage : AreNoForm words → ReadNothing old new → IsDue words old new 2 usage_text
   NotBuilt : AreNotBuilt words → ReadNothing old new → IsDue words old new 10 not_built_text
   TooLong : (command : Command) → AskFor words command → ReadTooMany old new → IsDue words old new 9 too_long_text
-  Said : (command : Command) (bytes : List ℕ) (status : ℕ) (text : List ℕ) → AskFor words command → ReadAll old new bytes → IsOutput command bytes status text →
-      IsDue words old new status text
+  Said : (command : Command) (bytes : List ℕ) (status : ℕ) (text : List ℕ) → AskFor words command →
+      ReadAll old new bytes → IsOutput command bytes status text → IsDue words old new status text
 
 -- what a run with these words did, by the status that it ended with
 pub data HasRun (words : List (List ℕ)) (old new : Ends) : ℕ → Type 0 where
   -- the text that is due was written whole
-  Wrote : (status : ℕ) (text : List ℕ) → IsDue words old new status text → Appends old.written new.written text → HasRun words old new status
-  -- the sink's count of faults rose after a proper prefix of the text that is due
-  WriteFault : (status k : ℕ) (text : List ℕ) → IsDue words old new status text → k < length text → Appends old.written new.written (take k text) → Rises old.write_faults new.write_faults → HasRun words old new 7
+  Wrote : (status : ℕ) (text : List ℕ) → IsDue words old new status text → WroteAll old new text →
+      HasRun words old new status
+  -- a write failed after a proper prefix of the text that is due
+  WriteFault : (status k : ℕ) (text : List ℕ) → IsDue words old new status text → WrotePart old new text k →
+      HasRun words old new 7
   -- the source's count of faults rose before too many bytes were taken
-  ReadFault : (command : Command) → AskFor words command → ReadNotTooMany old new → Rises old.read_faults new.read_faults → WroteNothing old new → HasRun words old new 6
-  -- memory was refused
-  NoMemory : WroteNothing old new → HasRun words old new 8
-
--- what a command did that reads the source, by the status that it ended with
-abbrev pub HasAnswered : Command → Ends → Ends → ℕ → Type 0
-HasAnswered command old new status = (words : List (List ℕ)) → AskFor words command → HasRun words old new status
+  ReadFault : (command : Command) → AskFor words command → ReadNotTooMany old new →
+      Rises old.read_faults new.read_faults → WroteNothing old new → HasRun words old new 6
+  -- want of memory
+  NoMemory : ReadNotTooMany old new → NoReadFailed old new → WroteNothing old new → HasRun words old new 8

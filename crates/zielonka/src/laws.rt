@@ -1,6 +1,10 @@
 //! Laws over the definitions alone.
 
-ghost use Rattle.zielonka.specs.Laws.{AnswerIsOfAllBytes, NoMemoryWritesNothing, NotBuiltIsOfTheWords, OutputIsOne, ReadFaultIsOfTheSource, RunCompletes, StatusesAreKnown, TooLongIsOfTheBytes, TooManyComplete, TooManyDecide, UsageIsOfTheWords, WordsDecideNotBuilt, WordsDecideTheUsage, WriteFaultIsOfTheSink};
+ghost use Rattle.zielonka.specs.Laws.{AnswerIsOfAllBytes, CountsStay, NoMemoryWritesNothing, NotBuiltIsOfTheWords};
+ghost use Rattle.zielonka.specs.Laws.{OpenExactly, OutputIsOne, ReadFaultIsOfTheSource, RefusedExactly};
+ghost use Rattle.zielonka.specs.Laws.{RunCompletes, SomethingIsDue, StatusesAreKnown, TooLongIsOfTheBytes};
+ghost use Rattle.zielonka.specs.Laws.{TooManyComplete, TooManyDecide, UsageIsOfTheWords, WordsDecideNotBuilt};
+ghost use Rattle.zielonka.specs.Laws.{WordsDecideTheUsage, WriteFaultIsOfTheSink};
 
 /// For each command and each text one status and one text are due.
 #[tactic(auto, using(crate::proofs::OneOutput::output_is_one))]
@@ -8,16 +12,31 @@ pub fn what_is_due_is_one()
     ensures { OutputIsOne }
 {}
 
-/// What a run did tells the cause of its status. Status 2 comes only of words that are in no form,
-/// with nothing read, and such words have no other status but 7 and 8; so does 10 of words in a form
-/// that isn't built. Status 6 comes only where the source's count of faults rose before too many
-/// bytes were taken, with nothing written, and 7 only where the sink's did, after a proper prefix of a
-/// text that is due. Status 9 comes only where one byte more than the limit was taken, and where the
-/// source tells its bytes, a run that took so many ends with 9, 7 or 8. Status 8, want of memory, comes
-/// with nothing written. Each of 0, 1, 3, 4 and 5 comes only where all bytes were read, and the text that is due
-/// for them was written whole. Where the source tells its bytes and has not too many, and neither
-/// count of faults rose, a command that reads them ends with 8 or with what is due for all bytes. A
-/// count that stands at its last value counts as one that rose.
+/// For each command and each text some status and some text are due.
+#[tactic(auto, using(crate::proofs::SomeOutput::something_is_due))]
+pub fn something_is_due()
+    ensures { SomethingIsDue }
+{}
+
+/// The status that is due is 4 exactly where the bytes are no document, and 5 exactly where they are a
+/// job whose language has a break.
+#[tactic(auto, using(crate::proofs::Exactly::refused_exactly, crate::proofs::Exactly::open_exactly))]
+pub fn refusals_are_exact()
+    ensures refused { RefusedExactly }
+    ensures open { OpenExactly }
+{}
+
+/// What a run did tells the cause of its status. Status 2 comes only of words that are in no form, and
+/// 10 only of words in a form that isn't built, with nothing read; and such words have no other status
+/// but 7 and 8. Status 6 comes only where the source's count of faults rose before too many bytes were
+/// taken, with nothing written, and 7 only where the sink's did, after a proper prefix of a text that is
+/// due; with any other status that count is what it was. Status 9 comes only where one byte more than
+/// the limit was taken, and where the source tells its bytes, a run that took so many ends with 9, 7 or
+/// 8. Status 8, want of memory, comes with nothing written. Each of 0, 1, 3, 4 and 5 comes only where all
+/// bytes were read, and the text that is due for them was written whole. Where the source tells its bytes
+/// and has not too many, and neither count of faults rose, a command that reads them ends with 8 or with
+/// what is due for all bytes. A count that stands at its last value counts as one that rose. What is said
+/// of bytes holds of sources and sinks that tell them.
 pub fn statuses_have_their_causes()
     ensures usage { UsageIsOfTheWords }
     ensures words { WordsDecideTheUsage }
@@ -25,6 +44,7 @@ pub fn statuses_have_their_causes()
     ensures words_not_built { WordsDecideNotBuilt }
     ensures read_fault { ReadFaultIsOfTheSource }
     ensures write_fault { WriteFaultIsOfTheSink }
+    ensures counts { CountsStay }
     ensures too_long { TooLongIsOfTheBytes }
     ensures too_many { TooManyDecide }
     ensures too_many_complete { TooManyComplete }

@@ -1,11 +1,11 @@
-//! What the words of the command ask for.
+//! What the command words ask for.
 
 ghost use Rattle.std.specs.Prelude.{◌≡◌, IfOk, map, string_bytes};
 ghost use Rattle.zielonka.specs.Requests.{request_by, request_in, without_cache};
 
 use std::alloc::Global;
 use za_alpha::OutOfMemory;
-use za_words::{Plan, WordsFault, read_words};
+use za_command::{Plan, WordsFault, read_words};
 
 /// A command that reads a job and waits for nobody.
 #[derive(Clone, Copy, Debug, PartialEq, Eq)]
@@ -15,7 +15,7 @@ pub enum Command {
     Locals,
 }
 
-/// What words ask of the commands that wait for nobody.
+/// What command words ask of the commands that wait for nobody.
 #[derive(Clone, Copy, Debug, PartialEq, Eq)]
 pub enum Request {
     /// They are in no form: the usage line.
@@ -50,7 +50,7 @@ fn request_by(plan: Plan) -> Request
     }
 }
 
-/// What words ask for.
+/// What command words ask for.
 pub(crate) fn request_in(alloc: Global, words: &[String]) -> Result<Request, OutOfMemory>
     ensures { IfOk result (λ request. request ≡ request_in (map string_bytes words.now)) }
 {

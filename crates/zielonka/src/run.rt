@@ -1,7 +1,8 @@
 ghost use Rattle.std.specs.Prelude.{◌≡◌, map, string_bytes};
-ghost use Rattle.zielonka.specs.Run.{HasAnswered, HasRun, HasSaid};
+ghost use Rattle.zielonka.specs.Run.{HasRun};
+ghost use Rattle.zielonka.specs.Private.Saying.{HasAnswered, HasSaid};
 
-use crate::answer::output_of;
+use crate::due::output_of;
 use crate::request::{Command, Request, request_in};
 use crate::status::{Outcome, Status};
 use std::alloc::Global;
@@ -20,7 +21,8 @@ const NOT_BUILT: &[u8] = b"not built\n";
 
 /// Writes a text. The status is the one given, or 7 where a write failed.
 fn say<K: Sink>(sink: &mut K, status: u8, text: &[u8]) -> Outcome
-    ensures { HasSaid status text.now (K.written sink.old) (K.written sink.new) (K.faults sink.old) (K.faults sink.new) result.status.0 }
+    ensures { HasSaid status text.now (K.written sink.old) (K.written sink.new)
+        (K.faults sink.old) (K.faults sink.new) result.status.0 }
 {
     match write_all(sink, text) {
         Ok(()) => Outcome {
@@ -38,8 +40,18 @@ fn answer<S: Source, K: Sink>(
     sink: &mut K,
 ) -> Outcome
     ensures { HasAnswered command
-        (record { left = S.left source.old; read_faults = S.faults source.old; written = K.written sink.old; write_faults = K.faults sink.old })
-        (record { left = S.left source.new; read_faults = S.faults source.new; written = K.written sink.new; write_faults = K.faults sink.new })
+        (record {
+          left = S.left source.old;
+          read_faults = S.faults source.old;
+          written = K.written sink.old;
+          write_faults = K.faults sink.old;
+        })
+        (record {
+          left = S.left source.new;
+          read_faults = S.faults source.new;
+          written = K.written sink.new;
+          write_faults = K.faults sink.new;
+        })
         result.status.0 }
 {
     match read_all(alloc, source, MOST_BYTES) {
@@ -56,19 +68,23 @@ fn answer<S: Source, K: Sink>(
 /// The program for the commands that wait for nobody. It reads the source to its end, and writes to
 /// the sink what is due for the words and these bytes. It returns for every input.
 ///
-/// The words are those after the program's name. `solo` fires the letters of the job's scripts that
-/// are next at all their processes, the least-numbered first, until none is, and answers accept (0),
-/// reject (1) or stuck (3). `check` answers how many states the minimal automaton of the job's
-/// language has (0). `locals` answers what each process knows after the letters that `solo` fires,
-/// made from local states alone (0). Of other forms `audit`, `gen` and a cache above 0 aren't built
-/// yet (10), and `run` and `journal` are none here; those, and words in no form, are answered by the
+/// The words are those after the program's name. `solo` answers accept (0), reject (1) or stuck (3):
+/// what the automaton of the job says of all words that weave the job's scripts. It says how many letters
+/// the weave has, and where the scripts are stuck, which these are and what each process waits for.
+/// `check` answers how many states the minimal automaton of the job's language has (0). `locals` answers
+/// what each process knows after the weave (0). Of other forms `audit`, `gen` and a cache above 0 aren't
+/// built yet (10), and `run` and `journal` are none here; those, and words in no form, are answered by the
 /// usage line (2). In these two cases the source isn't read.
 ///
 /// Bytes that are no document are refused at their first wrong line (4), more than 1,048,576 of them
 /// too (9). A language that isn't closed under trace equivalence is answered by two equivalent words
-/// of which one is accepted (5), the least. Status 6 comes only where a read failed, and 7 only where
-/// a write did, after a proper prefix of the text. Status 8, want of memory, comes with nothing
-/// written.
+/// of which one is accepted (5), the least. Status 6 comes only where the source's count of faults rose,
+/// with nothing written, and 7 only where the sink's did, after a proper prefix of the text that is due;
+/// a count that stands at its last value counts as one that rose. Status 8, want of memory, comes with
+/// nothing written.
+///
+/// What is said of bytes holds where the source tells the bytes that it has left, and the sink those that
+/// were written to it.
 pub fn plain<S: Source, K: Sink>(
     alloc: Global,
     words: &[String],
@@ -76,8 +92,18 @@ pub fn plain<S: Source, K: Sink>(
     sink: &mut K,
 ) -> Outcome
     ensures { HasRun (map string_bytes words.now)
-        (record { left = S.left source.old; read_faults = S.faults source.old; written = K.written sink.old; write_faults = K.faults sink.old })
-        (record { left = S.left source.new; read_faults = S.faults source.new; written = K.written sink.new; write_faults = K.faults sink.new })
+        (record {
+          left = S.left source.old;
+          read_faults = S.faults source.old;
+          written = K.written sink.old;
+          write_faults = K.faults sink.old;
+        })
+        (record {
+          left = S.left source.new;
+          read_faults = S.faults source.new;
+          written = K.written sink.new;
+          write_faults = K.faults sink.new;
+        })
         result.status.0 }
 {
     match request_in(alloc, words) {

@@ -7,7 +7,7 @@
 /// | 4 | the input is no document |
 /// | 5 | the language is not closed under trace equivalence |
 /// | 6, 7 | a read, a write failed |
-/// | 8 | memory was refused |
+/// | 8 | want of memory |
 /// | 9 | the input has more than 1,048,576 bytes |
 /// | 10 | not built yet |
 #[derive(Clone, Copy, Debug, PartialEq, Eq)]

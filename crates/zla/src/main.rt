@@ -1,43 +1,87 @@
 //! The program `zla`: the top call of zielonka over standard input and standard output.
 #![tactic(auto)]
 
-ghost use Rattle.std.specs.Prelude.{◌≡◌, ◌⊎◌, IfErr};
+ghost use Rattle.std.specs.Prelude.{◌≡◌, IfErr, IfOk, drop, map, string_bytes};
+ghost use Rattle.std.specs.IoError.{error_kind};
+ghost use Rattle.std.specs.Process.{exit_status};
+ghost use Rattle.std.specs.Vec.Iter.{into_iter_items};
+ghost use Rattle.zielonka.specs.Run.{HasRun};
+ghost use Rattle.zla.specs.Refusals.{IsRefusal};
 
+use std::alloc::{AllocError, Global};
+use std::env::{self, Args};
+use std::io::{self, ErrorKind};
 use std::process::ExitCode;
-use std::rt::Env;
-use std::{env, io};
-use za_base::{StdSink, StdSource};
+use za_base::{Sink, Source, StdSink, StdSource};
 use zielonka::{Status, plain};
 
-/// The words after the program's name. Memory for them was refused is status 8, and any other
-/// refusal of the system, as of a word that is no text, is status 11.
-fn words(rt: &(impl Env + AllocGlobal)) -> Result<Vec<String>, Status>
-    ensures status { IfErr result (λ s. (s.0 ≡ 8) ⊎ (s.0 ≡ 11)) }
+/// The status where the system refuses the program's arguments: 8 for want of memory, and 11 for any other
+/// kind of error, as that of a word that is no text.
+fn refused(kind: ErrorKind) -> Status
+    ensures { IsRefusal kind result.0 }
 {
-    let args = match env::args(rt) {
-        Ok(args) => args,
-        Err(error) => {
-            return match error.kind() {
-                io::ErrorKind::OutOfMemory => Err(Status(8)),
-                _ => Err(Status(11)),
-            };
-        }
-    };
-    let mut words = Vec::new(rt.alloc());
-    for word in args.skip(1) {
-        words.push(word).map_err(|_| Status(8))?;
+    match kind {
+        ErrorKind::OutOfMemory => Status(8),
+        _ => Status(11),
+    }
+}
+
+/// The words of the command: all arguments but the first, which is the program's name.
+fn words(alloc: Global, args: Args) -> Result<Vec<String>, AllocError>
+    ensures { IfOk result (λ words. words.items ≡ drop 1 (into_iter_items args)) }
+{
+    let mut rest = args;
+    rest.next();
+    let mut words = Vec::new(alloc);
+    'words: while let Some(word) = rest.next() {
+        words.push(word)?;
     }
     Ok(words)
 }
 
-fn main(rt: HostRuntime) -> ExitCode {
-    let status = match words(&rt) {
-        Ok(words) => {
-            let mut source = StdSource::new(rt.reader());
-            let mut sink = StdSink::new(io::writer(&rt));
-            plain(rt.alloc(), words.as_slice(), &mut source, &mut sink).status
-        }
-        Err(status) => status,
-    };
+/// What the program does with its arguments, or with the system's refusal of them.
+fn run<S: Source, K: Sink>(
+    alloc: Global,
+    args: io::Result<Args>,
+    source: &mut S,
+    sink: &mut K,
+) -> Status
+    ensures ran { IfOk args (λ args. HasRun (map string_bytes (drop 1 (into_iter_items args)))
+        (record {
+          left = S.left source.old;
+          read_faults = S.faults source.old;
+          written = K.written sink.old;
+          write_faults = K.faults sink.old;
+        })
+        (record {
+          left = S.left source.new;
+          read_faults = S.faults source.new;
+          written = K.written sink.new;
+          write_faults = K.faults sink.new;
+        })
+        result.0) }
+    ensures refused { IfErr args (λ error. IsRefusal (error_kind error) result.0) }
+    ensures source { IfErr args (λ _. source.new ≡ source.old) }
+    ensures sink { IfErr args (λ _. sink.new ≡ sink.old) }
+{
+    match args {
+        Ok(args) => match words(alloc, args) {
+            Ok(words) => plain(alloc, words.as_slice(), source, sink).status,
+            Err(_) => Status(8),
+        },
+        Err(error) => refused(error.kind()),
+    }
+}
+
+/// A status as the system takes it.
+fn exit_code(status: Status) -> ExitCode
+    ensures { exit_status result ≡ status.0 }
+{
     ExitCode::from(status.0)
+}
+
+fn main(rt: HostRuntime) -> ExitCode {
+    let mut source = StdSource::new(rt.reader());
+    let mut sink = StdSink::new(io::writer(&rt));
+    exit_code(run(rt.alloc(), env::args(&rt), &mut source, &mut sink))
 }

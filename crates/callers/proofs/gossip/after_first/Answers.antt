@@ -8,7 +8,7 @@ use Rattle.callers.proofs.gossip.after_first.Goals as goal
 
 -- copies of the blank rows are the rows of the letter's processes before any event
 opening : (alphabet : DistributedAlphabet) (a n count : ℕ) (inputs : List Rows) (blank : Rows) → n ≡ alphabet.processes → count ≡ length (loc_of alphabet a) →
-    inputs ≡ replicate count blank → ((x : ℕ) → blank ≡ rows_after (loc_of alphabet) n [] x) → AreRowsAfter alphabet [] a inputs
+    inputs ≡ replicate count blank → ((x : ℕ) → blank ≡ rows_after (loc_of alphabet) n [] x) → AreRowsAfter alphabet [] (loc_of alphabet a) inputs
 opening alphabet a n count inputs blank processes counted copies same = record {
   word = All-nil _;
   rows = copies ∙ ap (λ k. replicate k blank) counted ∙ same-for-all (rows_after (loc_of alphabet) n []) blank (loc_of alphabet a) same

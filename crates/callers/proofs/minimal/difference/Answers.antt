@@ -7,7 +7,7 @@ use Rattle.callers.proofs.minimal.difference.Goals as goal
 
 pub returns : goal.returns
 returns c =
-    let found = c.in_ok-minimal.ensures in
+    let found = c.in_ok-minimal.ensures.minimal in
     let m = c.in_ok-minimal.minimal.dfa in
     let u = c.args.u.now in
     let v = c.args.v.now in

@@ -1,13 +1,13 @@
-use Rattle.std.proofs.Common.{◌≤◌, ◌-◌, ◌+◌, vec_len}
+use Rattle.std.proofs.Common.{◌≡◌, ◌≤◌, ◌-◌, ◌+◌, vec_len}
 use Rattle.std.specs.Io.KnownBytes.{Consumes}
 use Rattle.za_base.proofs.reading.read_all.Given as goal
 
--- the text is what was taken so far, within the limit, and the count of faults never fell
+-- the text is what was taken so far, within the limit, and the count of faults stays
 abbrev pub invariant-turns : goal.invariant-turns
 invariant-turns g l = record {
   within : vec_len l.text ≤ l.limit;
   taken : Consumes (g.S.Source.left l.fn.source) (g.S.Source.left l.source) l.text.items;
-  never_falls : g.S.Source.faults l.fn.source ≤ g.S.Source.faults l.source;
+  stays : g.S.Source.faults l.source ≡ g.S.Source.faults l.fn.source;
 }
 
 abbrev pub decreases-turns : goal.decreases-turns

@@ -1,4 +1,4 @@
-use Rattle.std.proofs.Common.{◌-◌, length, drop, arith, length-drop}
+use Rattle.std.proofs.Common.{◌-◌, length, drop, ◌∙◌, arith, length-drop}
 use Rattle.std.proofs.lemmas.List.{length-take}
 use Rattle.za_base.proofs.Streams.{appends_more}
 use Rattle.za_base.proofs.writing.write_all.Goals as goal
@@ -10,5 +10,5 @@ turns-preserved g c =
     record {
       within = omega (arith, c.in-Ok.ensures.within, length-take (length text - at) (drop at text), length-drop at text);
       written = appends_more _ _ _ text at c.in-Ok.n c.turns.invariant.written c.in-Ok.ensures.bytes;
-      never_falls = omega (arith, c.in-Ok.ensures.never_falls);
+      stays = c.in-Ok.ensures.stays ∙ c.turns.invariant.stays;
     }

@@ -40,7 +40,7 @@ knows-requires-clause-shape c =
     ∙ sym c.processes-n.ensures.value
 
 -- the answer of the test, by views
-seen : (c : Joined-not-knows) (w : List ℕ) → AreRowsAfter c.args.alphabet.now w c.args.a.0 c.args.inputs.now →
+seen : (c : Joined-not-knows) (w : List ℕ) → AreRowsAfter c.args.alphabet.now w (loc_of c.args.alphabet.now c.args.a.0) c.args.inputs.now →
     c.knows.result ≡ option_map_or (λ f. in_view (participants (loc_of c.args.alphabet.now) w) (length w) (get_or (loc_of c.args.alphabet.now c.args.a.0) c.loop-y.newest 0 ∷ []) f)
     (primary (participants (loc_of c.args.alphabet.now) w) (length w) (get_or (loc_of c.args.alphabet.now c.args.a.0) c.loop-y.y 0) c.args.r) true
 seen c w given =

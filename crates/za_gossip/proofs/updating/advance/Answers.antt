@@ -9,14 +9,14 @@ use Rattle.za_order.specs.Labels.{number_of}
 use Rattle.za_order.proofs.Least.{cube}
 use Rattle.za_ids.specs.declared.ids.EventId.{EventId}
 use Rattle.za_ids.specs.Numbers.{event_numbers}
-use Rattle.za_gossip.specs.Inside.{rows_in}
+use Rattle.za_gossip.specs.Private.Inside.{rows_in}
 use Rattle.za_gossip.specs.declared.gossip.Gossip.TheInside.{Inside}
 use Rattle.za_gossip.specs.declared.gossip.Level.{Level}
 use Rattle.za_gossip.specs.declared.gossip.Level.TheVariants.{Primary, Secondary, Tertiary}
 use Rattle.za_gossip.specs.Rows.{Rows, AreRowsAfter, rows_of}
-use Rattle.za_gossip.specs.Levels.{level_of}
+use Rattle.za_gossip.specs.Private.Levels.{level_of}
 use Rattle.za_gossip.specs.Updates.{new_label, updated}
-use Rattle.za_gossip.specs.Sources.{IsSource, joined_entry}
+use Rattle.za_gossip.specs.Private.Sources.{IsSource, joined_entry}
 use Rattle.za_gossip.proofs.Updates.{label-after, rows-after}
 use Rattle.za_gossip.proofs.RowsOf.{same-rows}
 use Rattle.za_gossip.proofs.LevelRows.{own_block}
@@ -61,7 +61,7 @@ write_row-requires-3-clause-rows c = λ k d l.
     let size = ap length slice ∙ level-size c.args.alphabet.now.processes c.into.inside c.args.into.now c.into.view_is c.into.invariant c.requires.shape Tertiary in
     omega arith
 
-found : (c : After-write_row-3) (w : List ℕ) → AreRowsAfter c.args.alphabet.now w c.args.a.0 c.args.inputs.now →
+found : (c : After-write_row-3) (w : List ℕ) → AreRowsAfter c.args.alphabet.now w (loc_of c.args.alphabet.now c.args.a.0) c.args.inputs.now →
     new_label c.args.alphabet.now.processes (loc_of c.args.alphabet.now c.args.a.0) c.args.a.0 (ids (loc_of c.args.alphabet.now) c.args.alphabet.now.processes w (length w)) ≡ c.least_free-label.result
 found c w given =
     let row : (get_or c.args.inputs.now 0 c.index-inputs-0.result).tertiary ≡ event_numbers c.entries.result.now = sym (c.entries.ensures.value ∙ ap (λ (rows : Rows). rows.tertiary) c.index-inputs-0.is) in
@@ -78,7 +78,7 @@ returns-clause-label c = λ w given.
     sym (found (goal.at.returns-clause-label c).After-write_row-3 w given) ∙ label-after (loc_of c.args.alphabet.now) (length c.args.alphabet.now.letters) c.args.alphabet.now.processes w c.args.a.0 c.processes-n.ensures.whole.located given.word c.requires.letter
 
 -- the rows as they are written, after a word
-module _ (c : After-write_row-3) (w : List ℕ) (given : AreRowsAfter c.args.alphabet.now w c.args.a.0 c.args.inputs.now) where
+module _ (c : After-write_row-3) (w : List ℕ) (given : AreRowsAfter c.args.alphabet.now w (loc_of c.args.alphabet.now c.args.a.0) c.args.inputs.now) where
   abbrev n : ℕ
   n = c.args.alphabet.now.processes
 

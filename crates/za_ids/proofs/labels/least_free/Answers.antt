@@ -1,7 +1,8 @@
-use Rattle.std.proofs.Common.{◌≡◌, ℕ, ◌^◌, ◌<◌, ◌≤◌, true, false, length, get_or, suc, inl, inr, sym, ap, ◌∙◌, arith}
-use Rattle.std.proofs.lemmas.Bool.{cases_lt}
+use Rattle.std.proofs.Common.{◌≡◌, ℕ, ◌^◌, ◌<◌, ◌≤◌, true, false, not, length, get_or, suc, inl, inr, sym, ap, subst, ◌∙◌, arith}
+use Rattle.std.proofs.lemmas.Bool.{cases_lt, not-true, not-false}
 use Rattle.std.proofs.lemmas.List.{length-map}
 use Rattle.za_alpha.specs.Words.{has}
+use Rattle.za_alpha.proofs.Least.{least-true, least-below}
 use Rattle.za_order.specs.Labels.{number_of}
 use Rattle.za_ids.specs.declared.ids.EventId.{EventId}
 use Rattle.za_ids.specs.Numbers.{event_numbers}
@@ -12,7 +13,10 @@ use Rattle.za_ids.proofs.labels.least_free.Goals.{After-first_unmarked}
 -- the labels below the first that is not marked are taken
 taken-below : (c : After-first_unmarked) (k : ℕ) → k < c.first_unmarked.result → k ≤ c.args.n ^ 3 → has (event_numbers c.args.ids.now) (number_of c.args.n c.args.a.0 k) ≡ true
 taken-below c k l h =
-    sym (c.taken_labels-taken.ensures.marks k h) ∙ sym (ap (λ m. get_or m k false) c.as_slice.ensures) ∙ c.first_unmarked.ensures.marked k l
+    let marked = λ (j : ℕ). get_or c.as_slice.result.now j false in
+    let value = c.first_unmarked.ensures.value in
+    sym (c.taken_labels-taken.ensures.marks k h) ∙ sym (ap (λ m. get_or m k false) c.as_slice.ensures)
+    ∙ not-false (marked k) (least-below (λ j. not (marked j)) (length c.as_slice.result.now) k (omega arith))
 
 -- if all were, there would be more numbers than there are
 pub returns-clause-bounded : goal.returns-clause-bounded
@@ -31,7 +35,11 @@ returns-clause-free c =
     let b = returns-clause-bounded c in
     let room = c.taken_labels-taken.ensures.room in
     let long = ap length c.as_slice.ensures in
-    sym (c.taken_labels-taken.ensures.marks c.first_unmarked.result b) ∙ sym (ap (λ m. get_or m c.first_unmarked.result false) c.as_slice.ensures) ∙ c.first_unmarked.ensures.unmarked (omega arith)
+    let marked = λ (j : ℕ). get_or c.as_slice.result.now j false in
+    let value = c.first_unmarked.ensures.value in
+    sym (c.taken_labels-taken.ensures.marks c.first_unmarked.result b) ∙ sym (ap (λ m. get_or m c.first_unmarked.result false) c.as_slice.ensures)
+    ∙ not-true (marked c.first_unmarked.result)
+    (subst (λ j. not (marked j) ≡ true) (sym value) (least-true (λ j. not (marked j)) (length c.as_slice.result.now) (omega arith)))
 
 pub returns-clause-least : goal.returns-clause-least
 returns-clause-least c = let b = returns-clause-bounded c in λ k l. taken-below c k l (omega arith)

@@ -1,8 +1,8 @@
 use Rattle.std.proofs.Common.{◌≡◌, length}
 use Rattle.std.specs.List.{filter_map}
-use Rattle.za_text.specs.Numbers.{number_of}
-use Rattle.za_lang.specs.Langs.{IsPartial}
-use Rattle.za_lang.specs.Reading.{marked}
+use Rattle.za_text.specs.Numbers.{numeral_value}
+use Rattle.za_dfa.specs.Partials.{IsPartial}
+use Rattle.za_lang.specs.Private.Gathering.{marked}
 use Rattle.za_lang.specs.Tests.{accept_line_fault}
 use Rattle.za_lang.proofs.gather.accept_states.Given as goal
 
@@ -11,7 +11,7 @@ invariant-loop-word l = record {
   whole : IsPartial l.lang;
   states : l.states ≡ l.initial.lang.states;
   same : l.lang ≡ record l.initial.lang { accepting = l.lang.accepting };
-  marks : marked l.lang.accepting (filter_map number_of l.words) ≡ marked l.initial.lang.accepting (filter_map number_of l.initial.words);
+  marks : marked l.lang.accepting (filter_map numeral_value l.words) ≡ marked l.initial.lang.accepting (filter_map numeral_value l.initial.words);
   fault : accept_line_fault l.states l.words ≡ accept_line_fault l.states l.initial.words;
 }
 

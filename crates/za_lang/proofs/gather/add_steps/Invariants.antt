@@ -2,7 +2,7 @@ use Rattle.std.proofs.Common.{◌≡◌, ◌++◌, List, ℕ, length}
 use Rattle.std.specs.List.{filter_map}
 use Rattle.za_alpha.specs.Alphabet.{place_of}
 use Rattle.za_script.specs.ScriptLists.{total_of}
-use Rattle.za_lang.specs.Reading.{AreAdded}
+use Rattle.za_lang.specs.Private.Gathering.{AreAdded}
 use Rattle.za_lang.specs.Tests.{steps_fault}
 use Rattle.za_lang.proofs.gather.add_steps.Given as goal
 

@@ -1,29 +1,30 @@
-use Rattle.std.proofs.Common.{◌∙◌, ◌++◌, ◌∷◌, ◌+◌, ◌*◌, ◌≤◌, ◌<◌, [], cond, length, Some, None, ap, sym, subst, arith}
+use Rattle.std.proofs.Common.{◌≡◌, ◌∙◌, ◌++◌, ◌∷◌, [], cond, Some, None, ap, sym, subst, rules}
 use Rattle.za_text.specs.declared.kind.Kind.TheVariants.{TwoTargets}
-use Rattle.za_dfa.specs.Cells.{AreEntered}
-use Rattle.za_dfa.proofs.CellLemmas.{cell_inside, entered_more, other_of_cell}
-use Rattle.za_lang.specs.Langs.{PartialDfa}
+use Rattle.za_dfa.specs.declared.rows.Row.{Row}
+use Rattle.za_dfa.specs.Partials.{PartialDfa}
+use Rattle.za_dfa.specs.Private.Entered.{AreEntered}
+use Rattle.za_dfa.proofs.EnteredLemmas.{other_of_entered, entered_more}
+use Rattle.za_lang.specs.Tests.{row_line_fault}
 use Rattle.za_lang.proofs.gather.take_row.Goals as goal
 
-pub returns-then-is_contradicted-clause-rows : goal.returns-then-is_contradicted-clause-rows
-returns-then-is_contradicted-clause-rows c rows entered =
+pub returns-in_err-enter-clause-rows : goal.returns-in_err-enter-clause-rows
+returns-in_err-enter-clause-rows c rows entered =
     let lang = c.args.lang.now in
     let row = c.in_ok-row.row in
-    let known = c.in_ok-row.ensures.row.2 in
-    c.in_ok-row.ensures.said rows
-    ∙ ap (λ b. cond b (Some TwoTargets) None) (other_of_cell lang.targets (length lang.alphabet.letters) rows row known entered ∙ sym c.is_contradicted.ensures ∙ c.if-is_contradicted.true)
+    let at = c.in_ok-row.ensures.row in
+    let other = other_of_entered lang rows entered row.from row.letter.0 row.to at.1 at.2 in
+    let fault : row_line_fault lang.states lang.alphabet.letters rows c.args.words ≡ Some TwoTargets = c.in_ok-row.ensures.said rows ∙ ap (λ b. cond b (Some TwoTargets) None) (other ∙ c.in_err-enter.ensures.answer.0) in
+    search (rules, fault)
 
 pub returns-clause-rows : goal.returns-clause-rows
 returns-clause-rows c rows entered =
     let lang = c.args.lang.now in
-    let letters = length lang.alphabet.letters in
     let row = c.in_ok-row.row in
-    let known = c.in_ok-row.ensures.row.2 in
-    let right = other_of_cell lang.targets letters rows row known entered ∙ sym c.is_contradicted.ensures ∙ c.if-is_contradicted.false in
-    let size = c.requires.targets_length in
-    let room : lang.states * letters ≤ length lang.targets = omega arith in
-    let inside : row.from * letters + row.letter.0 < length lang.targets = cell_inside lang.targets letters lang.states row known c.in_ok-row.ensures.row.1 room in (
-      c.in_ok-row.ensures.said rows ∙ ap (λ b. cond b (Some TwoTargets) None) right,
-      subst (λ rs. AreEntered c.enter.new.self.targets letters (rows ++ rs)) (sym c.in_ok-row.ensures.row.0)
-          (subst (λ (l : PartialDfa). AreEntered l.targets letters (rows ++ row ∷ [])) (sym c.enter.ensures.value) (entered_more lang.targets letters rows row known inside entered right)),
+    let at = c.in_ok-row.ensures.row in
+    let table_row : Row = record { from = row.from; letter = row.letter; to = row.to } in
+    let answer = c.in_ok-enter.ensures.answer in
+    let other = other_of_entered lang rows entered row.from row.letter.0 row.to at.1 at.2 in (
+      c.in_ok-row.ensures.said rows ∙ ap (λ b. cond b (Some TwoTargets) None) (other ∙ answer.0),
+      subst (λ said. AreEntered c.enter.new.self (rows ++ said)) (sym at.0)
+          (subst (λ (p : PartialDfa). AreEntered p (rows ++ table_row ∷ [])) (sym answer.1) (entered_more lang rows entered table_row at.1 at.3 at.2 answer.0)),
     )

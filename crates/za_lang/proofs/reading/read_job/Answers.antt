@@ -5,7 +5,7 @@ use Rattle.za_lang.specs.declared.reading.Reading.{Reading}
 use Rattle.za_lang.specs.declared.reading.Reading.TheVariants as reading
 use Rattle.za_lang.specs.Answers.{data_of}
 use Rattle.za_lang.specs.Documents.{said, end_fault}
-use Rattle.za_lang.specs.Shown.{IsReading, Shows}
+use Rattle.za_lang.specs.Private.Reading.{IsReading, Keeps}
 use Rattle.za_lang.proofs.Faults.{begins, goes_on, ends}
 use Rattle.za_lang.proofs.Saying.{said_none}
 use Rattle.za_lang.proofs.Whole.{told_whole}
@@ -22,7 +22,7 @@ lines-preserved c =
     let n = c.lines.lines.passed in
     let taken = c.in-Ok.ensures.taken (said (take n all)) c.lines.invariant.shows in
     let on = goes_on all n c.next.new.self.passed (lines_of c.lines.lines.rest) (raw c.in-Some.line) (lines_of c.next.new.self.rest) c.lines.invariant.read c.in-Some.ensures.first taken.0 c.in-Some.ensures.passed in
-    record { read = on.0; whole = c.in-Ok.ensures.whole; shows = subst (Shows c.in-Ok.reading) (sym on.1) taken.1 }
+    record { read = on.0; whole = c.in-Ok.ensures.whole; shows = subst (Keeps c.in-Ok.reading) (sym on.1) taken.1 }
 
 pub returns-in-Some-into_job-clause-answer : goal.returns-in-Some-into_job-clause-answer
 returns-in-Some-into_job-clause-answer c =
@@ -31,6 +31,6 @@ returns-in-Some-into_job-clause-answer c =
     let job = c.in-Some-into_job.job in
     let e = ends all n (lines_of c.lines.lines.rest) c.lines.invariant.read c.in_default.ensures.none in
     let ended = c.in-Some-into_job.ensures in
-    let shows : Shows (reading.Body AfterEnd job) (said all) = subst (λ (r : Reading). Shows r (said all)) ended (subst (λ ls. Shows c.lines.reading (said ls)) e.1 c.lines.invariant.shows) in
+    let shows : Keeps (reading.Body AfterEnd job) (said all) = subst (λ (r : Reading). Keeps r (said all)) ended (subst (λ ls. Keeps c.lines.reading (said ls)) e.1 c.lines.invariant.shows) in
     let whole : IsReading (reading.Body AfterEnd job) = subst IsReading ended c.lines.invariant.whole in
     (e.0 ∙ ap (λ p. end_fault p n) (sym shows.0), told_whole (data_of job) (said all) whole.1 shows.1)

@@ -1,7 +1,7 @@
 use Rattle.std.proofs.Common.{length, take}
 use Rattle.za_text.specs.Lines.{lines_of}
 use Rattle.za_lang.specs.Documents.{said}
-use Rattle.za_lang.specs.Shown.{IsReading, Shows}
+use Rattle.za_lang.specs.Private.Reading.{IsReading, Keeps}
 use Rattle.za_lang.proofs.Faults.{AreRead}
 use Rattle.za_lang.proofs.reading.read_job.Given as goal
 
@@ -9,7 +9,7 @@ abbrev pub invariant-lines : goal.invariant-lines
 invariant-lines l = record {
   read : AreRead (lines_of l.bytes) l.lines.passed (lines_of l.lines.rest);
   whole : IsReading l.reading;
-  shows : Shows l.reading (said (take l.lines.passed (lines_of l.bytes)));
+  shows : Keeps l.reading (said (take l.lines.passed (lines_of l.bytes)));
 }
 
 abbrev pub decreases-lines : goal.decreases-lines

@@ -1,49 +1,67 @@
-use Rattle.std.proofs.Common.{length, slice_index, ◌∙◌, arith}
-use Rattle.std.proofs.lemmas.List.{length-set}
+use Rattle.std.proofs.Common.{ℕ, not, List, Option, length, replicate, sym, ap, subst, ◌∙◌, arith}
+use Rattle.std.specs.List.{range_with_len}
+use Rattle.std.proofs.lemmas.Bool.{and_left, not_from_true}
+use Rattle.std.proofs.lemmas.List.{length-map}
+use Rattle.za_alpha.specs.Limits.{most_processes}
+use Rattle.za_alpha.specs.declared.word.Letter.{Letter}
+use Rattle.za_alpha.specs.Words.{has}
+use Rattle.za_alpha.specs.Procs.{no_process}
 use Rattle.za_alpha.specs.Alphabet.{loc_of}
-use Rattle.za_order.specs.Views.{participants}
-use Rattle.za_order.specs.Locals.{under}
+use Rattle.za_order.proofs.Sets.{in-range}
+use Rattle.za_gossip.specs.Rows.{rows_after, AreRowsAfter}
+use Rattle.za_residue.specs.declared.masks.Masks.{Masks}
+use Rattle.za_residue.specs.Masks.{AreMasksAfter}
+use Rattle.za_residue.proofs.Nobody.{nobody-under}
+use Rattle.za_local.specs.Private.Shared.{meeting_of}
 use Rattle.za_local.proofs.Inputs.{row-length, few-rows}
 use Rattle.za_local.proofs.SharedNumbers.{shared-earlier}
-use Rattle.za_local.proofs.Sets.{rows-more}
 use Rattle.za_local.proofs.masks.masks_of.Goals as goal
 
-pub earlier_sets-requires-clause-few : goal.earlier_sets-requires-clause-few
-earlier_sets-requires-clause-few c =
-    let few = few-rows c.args.alphabet.now c.processes-n.ensures.whole c.requires.rows.0 c.args.a.0 c.requires.letter c.args.inputs.now c.requires.rows.1 in
+pub earlier_sets-earlier-requires-clause-few : goal.earlier_sets-earlier-requires-clause-few
+earlier_sets-earlier-requires-clause-few c =
+    let few = few-rows c.args.alphabet.now c.processes-n.ensures.whole c.requires.rows.0 c.args.a c.requires.letter c.args.inputs.now c.requires.rows.1 in
     let most = c.processes-n.ensures.whole.few_processes in
     omega arith
 
-pub earlier_sets-requires-clause-rows : goal.earlier_sets-requires-clause-rows
-earlier_sets-requires-clause-rows c = λ k d l.
+pub earlier_sets-earlier-requires-clause-rows : goal.earlier_sets-earlier-requires-clause-rows
+earlier_sets-earlier-requires-clause-rows c = λ k d l.
     let w = c.requires.rows.1 in
-    let e = row-length c.args.alphabet.now c.processes-n.ensures.whole c.requires.rows.0 w.word (loc_of c.args.alphabet.now c.args.a.0) c.args.inputs.now w.rows k d l in
+    let e = row-length c.args.alphabet.now c.processes-n.ensures.whole c.requires.rows.0 w.word (meeting_of c.args.alphabet.now c.args.a)
+    c.args.inputs.now w.rows k d l in
     let most = c.processes-n.ensures.whole.few_processes in
     omega arith
 
-pub bounds-masks-i : goal.bounds-masks-i
-bounds-masks-i c =
-    let few = few-rows c.args.alphabet.now c.processes-n.ensures.whole c.requires.rows.0 c.args.a.0 c.requires.letter c.args.inputs.now c.requires.rows.1 in
-    let most = c.processes-n.ensures.whole.few_processes in
-    let t = c.loop-i-test.true in
-    omega arith
-
-pub loop-i-preserved : goal.loop-i-preserved
-loop-i-preserved c =
+pub returns-in-None-clause-masks : goal.returns-in-None-clause-masks
+returns-in-None-clause-masks c =
     let alphabet = c.args.alphabet.now in
-    let k = c.loop-i.invariant in
-    let few = few-rows alphabet c.processes-n.ensures.whole c.requires.rows.0 c.args.a.0 c.requires.letter c.args.inputs.now c.requires.rows.1 in
-    let most = c.processes-n.ensures.whole.few_processes in
-    let t = c.loop-i-test.true in
-    let long = k.0 in (
-      length-set c.loop-i.masks.under c.loop-i.i c.under_sets.result ∙ k.0,
-      k.1,
-      λ w given.
-          rows-more (λ i. under (participants (loc_of alphabet) w) alphabet.processes (length w) (loc_of alphabet c.args.a.0) (slice_index (loc_of alphabet c.args.a.0) i)) alphabet.processes
-          c.loop-i.i c.loop-i.masks.under c.under_sets.result (omega arith) (k.2 w given) (c.under_sets.ensures w given),
-    )
+    let n : ℕ = alphabet.processes in
+    let xs : List ℕ = range_with_len 0 n in
+    let inputs = c.args.inputs.now in
+    let masks : Masks = record { earlier = c.earlier_sets-earlier.result; under = replicate most_processes (replicate most_processes no_process) } in
+    let P : Option Letter → Type 0 = λ a. (w : List ℕ) → AreRowsAfter alphabet w (meeting_of alphabet a) inputs →
+    AreMasksAfter alphabet w (meeting_of alphabet a) masks in
+    subst P (sym c.in-None.is)
+    (λ w given.
+    let long = ap length given.rows ∙ length-map xs (rows_after (loc_of alphabet) n w) in
+    record {
+      earlier = λ i s l. c.earlier_sets-earlier.ensures i s (omega arith)
+          ∙ shared-earlier alphabet c.processes-n.ensures.whole w given.word xs inputs given.rows i s (omega arith);
+      under = λ i r s l k. nobody-under most_processes most_processes i r s ∙ sym (and_left (not (has xs r)) _ (not_from_true (has xs r) (in-range n r k)));
+    })
 
-pub returns-clause-earlier : goal.returns-clause-earlier
-returns-clause-earlier c = λ w given i s l.
-    c.loop-i.invariant.1 i s l
-    ∙ shared-earlier c.args.alphabet.now c.processes-n.ensures.whole w given.word (loc_of c.args.alphabet.now c.args.a.0) c.args.inputs.now given.rows i s l
+pub returns-in-Some-clause-masks : goal.returns-in-Some-clause-masks
+returns-in-Some-clause-masks c =
+    let alphabet = c.args.alphabet.now in
+    let xs : List ℕ = loc_of alphabet c.in-Some.a.0 in
+    let inputs = c.args.inputs.now in
+    let masks : Masks = record { earlier = c.earlier_sets-earlier.result; under = c.under_rows.result } in
+    let P : Option Letter → Type 0 = λ a. (w : List ℕ) → AreRowsAfter alphabet w (meeting_of alphabet a) inputs →
+    AreMasksAfter alphabet w (meeting_of alphabet a) masks in
+    subst P (sym c.in-Some.is)
+    (λ w given.
+    let long = ap length given.rows ∙ length-map xs (rows_after (loc_of alphabet) alphabet.processes w) in
+    record {
+      earlier = λ i s l. c.earlier_sets-earlier.ensures i s (omega arith)
+          ∙ shared-earlier alphabet c.processes-n.ensures.whole w given.word xs inputs given.rows i s (omega arith);
+      under = λ i r s l k. c.under_rows.ensures w given i r s (omega arith) k;
+    })

@@ -1,8 +1,6 @@
-use Rattle.std.proofs.Common.{◌∙◌, length, slice_index, arith}
+use Rattle.std.proofs.Common.{◌∙◌, arith}
 use Rattle.std.proofs.lemmas.List.{length-set}
-use Rattle.za_alpha.specs.Alphabet.{loc_of}
-use Rattle.za_order.specs.Views.{participants}
-use Rattle.za_order.specs.Locals.{under}
+use Rattle.za_local.specs.Private.Shared.{under_at}
 use Rattle.za_local.proofs.Sets.{sets-more}
 use Rattle.za_local.proofs.masks.under_sets.Goals as goal
 
@@ -15,7 +13,6 @@ loop-r-preserved c =
     let n = c.requires.processes in
     let few = c.requires.whole.few_processes in (
       length-set c.loop-r.sets c.loop-r.r c.under_of.result ∙ k.0,
-      λ w given.
-          sets-more (under (participants (loc_of alphabet) w) alphabet.processes (length w) (loc_of alphabet c.args.a.0) (slice_index (loc_of alphabet c.args.a.0) c.args.i)) c.loop-r.r c.loop-r.sets c.under_of.result
-          (omega arith) (k.1 w given) (c.under_of.ensures w given),
+      λ w given. sets-more (under_at alphabet c.args.a.0 w c.args.i) c.loop-r.r c.loop-r.sets c.under_of.result (omega arith) (k.1 w given)
+          (c.under_of.ensures w given),
     )

@@ -23,4 +23,5 @@ add-requires-clause-shape c =
     let t = c.loop-local-test.true in
     let is = c.local-item.is ∙ local-at d w c.args.locals.now c.requires.1 c.loop-local.local-index c.local-item.result (omega arith) in
     subst (λ m. HasShape m c.loop-local.bench.states c.local-item.result) (sym k.0)
-    (subst (λ s. HasShape d.alphabet.processes s c.local-item.result) (sym k.1) (subst (HasShape d.alphabet.processes d.states) (sym is) (shape-after d w c.loop-local.local-index)))
+    (subst (λ s. HasShape d.alphabet.processes s c.local-item.result) (sym k.1)
+    (subst (HasShape d.alphabet.processes d.states) (sym is) (shape-after d w c.loop-local.local-index)))

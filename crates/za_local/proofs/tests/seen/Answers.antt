@@ -11,4 +11,5 @@ view_state-requires c =
     let given = c.requires.locals.1 in
     let long = locals-length d w c.args.locals.now given in
     let p = c.requires.process in
-    subst (HasShape d.alphabet.processes d.states) (sym (c.index-locals-p.is ∙ local-at d w c.args.locals.now given c.args.p c.index-locals-p.result (omega arith))) (shape-after d w c.args.p)
+    subst (HasShape d.alphabet.processes d.states)
+    (sym (c.index-locals-p.is ∙ local-at d w c.args.locals.now given c.args.p c.index-locals-p.result (omega arith))) (shape-after d w c.args.p)

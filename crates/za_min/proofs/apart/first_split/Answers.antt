@@ -2,7 +2,7 @@ use Rattle.std.proofs.Common.{◌≡◌, ap, sym, ◌∙◌, length, slice_index
 use Rattle.std.proofs.lemmas.Bool.{ne_eqb, not_from_false}
 use Rattle.za_dfa.specs.Tables.{automaton_of, step_of}
 use Rattle.za_alpha.proofs.Least.{least-is, least-none}
-use Rattle.za_min.specs.Rounds.{splits}
+use Rattle.za_min.specs.Private.Rounds.{splits}
 use Rattle.za_min.proofs.apart.first_split.Goals as goal
 
 pub returns-then-of : goal.returns-then-of

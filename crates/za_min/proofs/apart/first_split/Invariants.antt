@@ -1,6 +1,6 @@
 use Rattle.std.proofs.Common.{◌≡◌, ℕ, ◌<◌, false}
 use Rattle.za_dfa.specs.Tables.{automaton_of}
-use Rattle.za_min.specs.Rounds.{splits}
+use Rattle.za_min.specs.Private.Rounds.{splits}
 use Rattle.za_min.proofs.apart.first_split.Given as goal
 
 -- no letter so far leads into two classes

@@ -1,6 +1,6 @@
 use Rattle.std.proofs.Common.{◌≡◌, ℕ, ◌<◌, slice_index}
 use Rattle.za_dfa.specs.Tables.{automaton_of}
-use Rattle.za_min.specs.Rounds.{rounds}
+use Rattle.za_min.specs.Private.Rounds.{rounds}
 use Rattle.za_min.proofs.apart.round_of_split.Given as goal
 
 -- no round so far tells the states apart

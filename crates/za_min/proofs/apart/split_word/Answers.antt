@@ -1,8 +1,8 @@
 use Rattle.std.proofs.Common.{◌-◌, ◌<◌, ap, ◌∙◌, length, arith}
-use Rattle.za_alpha.specs.Words.{least}
+use Rattle.za_alpha.specs.Search.{least}
 use Rattle.za_dfa.specs.Tables.{automaton_of}
 use Rattle.za_dfa.proofs.TableLemmas.{total_of_complete}
-use Rattle.za_min.specs.Rounds.{splits, split_word}
+use Rattle.za_min.specs.Private.Rounds.{splits, split_word}
 use Rattle.za_min.proofs.ApartSteps.{row-read, row-length, letter-found, letter-more}
 use Rattle.za_min.proofs.apart.split_word.Goals as goal
 

@@ -1,6 +1,6 @@
 use Rattle.std.proofs.Common.{◌≡◌, ◌≤◌, ◌++◌}
 use Rattle.za_dfa.specs.Tables.{automaton_of}
-use Rattle.za_min.specs.Rounds.{IsSplit, split_word}
+use Rattle.za_min.specs.Private.Rounds.{IsSplit, split_word}
 use Rattle.za_min.proofs.apart.split_word.Given as goal
 
 -- the letters so far, and those of the rounds that are left, are the word

@@ -2,13 +2,15 @@ use Rattle.std.proofs.Common.{◌≡◌, suc, true, false, ◌+◌, [], ◌∷�
 use Rattle.std.specs.List.{range_with_len}
 use Rattle.std.proofs.lemmas.List.FromFn.{map-range_with_len_more}
 use Rattle.za_dfa.specs.Tables.{automaton_of}
-use Rattle.za_min.specs.Rounds.{rounds, refine}
+use Rattle.za_min.specs.Private.Rounds.{rounds, refine}
 use Rattle.za_min.proofs.RoundLemmas.{length-rounds}
 use Rattle.za_min.proofs.RoundSteps.{round-nearer, gap}
 use Rattle.za_min.proofs.classes.rounds_of.Goals as goal
 
-pub refined-requires : goal.refined-requires
-refined-requires c = ap length c.loop-classes.invariant.classes ∙ length-rounds (automaton_of c.args.dfa.now) (length c.loop-classes.rows.items)
+pub classes_after-requires-in-loop-classes : goal.classes_after-requires-in-loop-classes
+classes_after-requires-in-loop-classes c = λ x e.
+    let same : c.loop-classes.classes ≡ x = cc in
+    ap length (sym same) ∙ ap length c.loop-classes.invariant.classes ∙ length-rounds (automaton_of c.args.dfa.now) (length c.loop-classes.rows.items)
 
 pub returns-then-is_stable : goal.returns-then-is_stable
 returns-then-is_stable c =

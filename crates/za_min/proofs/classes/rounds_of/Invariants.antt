@@ -1,7 +1,7 @@
 use Rattle.std.proofs.Common.{◌≡◌, length, map}
 use Rattle.std.specs.List.{range_with_len}
 use Rattle.za_dfa.specs.Tables.{automaton_of}
-use Rattle.za_min.specs.Rounds.{rounds}
+use Rattle.za_min.specs.Private.Rounds.{rounds}
 use Rattle.za_min.proofs.RoundSteps.{gap}
 use Rattle.za_min.proofs.classes.rounds_of.Given as goal
 

@@ -1,5 +1,5 @@
 use Rattle.std.proofs.Common.{◌-◌}
-use Rattle.za_min.specs.Exploring.{merged_of, AreFoundStates}
+use Rattle.za_min.specs.Private.Exploring.{merged_of, AreFoundStates}
 use Rattle.za_min.proofs.explore.explore.Given as goal
 
 -- the letters of the places so far are done

@@ -1,6 +1,6 @@
 use Rattle.std.proofs.Common.{◌≡◌, ◌≢◌, ◌<◌, ℕ, List, length, slice_index, subst, arith}
 use Rattle.std.specs.Prelude.{MatchOption}
-use Rattle.za_min.specs.Exploring.{merged_of}
+use Rattle.za_min.specs.Private.Exploring.{merged_of}
 use Rattle.za_min.proofs.FoundSteps.{words-few}
 use Rattle.za_min.proofs.TableSteps.{some-place, at-place, target-found, target-is, states-long}
 use Rattle.za_min.proofs.table.target.Goals as goal

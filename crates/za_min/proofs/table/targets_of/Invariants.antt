@@ -1,4 +1,4 @@
-use Rattle.za_min.specs.Exploring.{merged_of, AreTargets}
+use Rattle.za_min.specs.Private.Exploring.{merged_of, AreTargets}
 use Rattle.za_min.proofs.table.targets_of.Given as goal
 
 -- the targets of the cells so far

@@ -1,6 +1,6 @@
 use Rattle.std.proofs.Common.{◌≡◌, ◌++◌, map, filter, decimal}
 use Rattle.std.specs.List.{range_with_len}
-use Rattle.za_lang.specs.Langs.{is_accepting}
+use Rattle.za_dfa.specs.Partials.{is_accepting}
 use Rattle.za_text.specs.Printed.{spaced}
 use Rattle.za_print.proofs.print.push_accepting.Given as goal
 

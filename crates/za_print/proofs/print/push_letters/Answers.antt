@@ -5,7 +5,8 @@ use Rattle.za_alpha.specs.Procs.{members}
 use Rattle.za_alpha.specs.Alphabet.{name_at}
 use Rattle.za_text.specs.Printed.{line, text_of}
 use Rattle.za_print.specs.Printed.{letter_line}
-use Rattle.za_print.proofs.LineLemmas.{one-more, letters-more}
+use Rattle.za_write.proofs.Lines.{one-more}
+use Rattle.za_print.proofs.LineLemmas.{letters-more}
 use Rattle.za_print.proofs.print.push_letters.Goals as goal
 
 pub loop-a-preserved : goal.loop-a-preserved

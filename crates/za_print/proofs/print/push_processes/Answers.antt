@@ -4,7 +4,7 @@ use Rattle.za_alpha.specs.Words.{has}
 use Rattle.za_alpha.specs.Procs.{members, members_below}
 use Rattle.za_alpha.proofs.Members.{members_below-zero, members_below-more}
 use Rattle.za_text.specs.Printed.{spaced}
-use Rattle.za_print.proofs.LineLemmas.{one-more, spaced-more}
+use Rattle.za_write.proofs.Lines.{one-more, spaced-more}
 use Rattle.za_print.proofs.print.push_processes.Goals as goal
 
 pub loop-p-init : goal.loop-p-init
@@ -15,7 +15,7 @@ loop-p-preserved c =
     let s = c.args.processes in
     let p = c.loop-p.p in
     one-more _ _ _ _ _ _ c.loop-p.invariant
-    (c.in_ok-push_number_if.ensures ∙ ap (λ b. c.loop-p.text.items ++ cond b (spaced (decimal p ∷ [])) []) c.has.ensures)
+    (c.in_ok-push_number_if.ensures.ok ∙ ap (λ b. c.loop-p.text.items ++ cond b (spaced (decimal p ∷ [])) []) c.has.ensures)
     (ap (λ ps. spaced (map decimal ps)) (members_below-more s p (omega arith)) ∙ spaced-more decimal (members_below s p) (has (members s) p) p)
 
 pub returns : goal.returns

@@ -1,6 +1,6 @@
-use Rattle.za_lang.specs.Langs.{row_of_cell}
-use Rattle.za_print.specs.Printed.{row_line}
-use Rattle.za_print.proofs.LineLemmas.{one-more, text_of-some-more}
+use Rattle.za_print.specs.Printed.{row_line, row_of_cell}
+use Rattle.za_write.proofs.Lines.{one-more}
+use Rattle.za_print.proofs.LineLemmas.{text_of-some-more}
 use Rattle.za_print.proofs.print.push_rows.Goals as goal
 
 pub loop-cell-preserved : goal.loop-cell-preserved

@@ -1,8 +1,7 @@
 use Rattle.std.proofs.Common.{◌≡◌, ◌++◌, map}
 use Rattle.std.specs.List.{filter_map, range_with_len}
 use Rattle.za_text.specs.Printed.{text_of}
-use Rattle.za_lang.specs.Langs.{row_of_cell}
-use Rattle.za_print.specs.Printed.{row_line}
+use Rattle.za_print.specs.Printed.{row_line, row_of_cell}
 use Rattle.za_print.proofs.print.push_rows.Given as goal
 
 -- the lines of the cells so far

@@ -1,5 +1,5 @@
 use Rattle.za_print.specs.Printed.{script_line}
-use Rattle.za_print.proofs.LineLemmas.{one-more, text_of-more}
+use Rattle.za_write.proofs.Lines.{one-more, text_of-more}
 use Rattle.za_print.proofs.print.push_scripts.Goals as goal
 
 pub loop-p-preserved : goal.loop-p-preserved

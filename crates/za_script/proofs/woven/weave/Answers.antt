@@ -26,9 +26,12 @@ loop-a-preserved c =
     (stands-step c.args.alphabet.now c.args.scripts.now al c.requires c.loop-a.weaving.places.items c.fire.new.self.places.items c.loop-a.weaving.sets.items c.fire.new.self.sets.items
     c.loop-a.word c.in-Some.a.0 c.loop-a.invariant c.in-Some.ensures (omega arith) (omega arith) c.fire.ensures.moved c.fire.ensures.ready)
 
-pub returns-clause-word : goal.returns-clause-word
-returns-clause-word c =
-    stands-end c.args.alphabet.now c.args.scripts.now c.in_ok-weaving.ensures.alphabet.located c.requires c.loop-a.weaving.places.items c.loop-a.weaving.sets.items c.loop-a.word c.loop-a.invariant c.in_default.ensures
+pub returns-clause-weave : goal.returns-clause-weave
+returns-clause-weave c = record {
+  word = stands-end c.args.alphabet.now c.args.scripts.now c.in_ok-weaving.ensures.alphabet.located c.requires c.loop-a.weaving.places.items c.loop-a.weaving.sets.items c.loop-a.word c.loop-a.invariant c.in_default.ensures;
+  processes = c.loop-a.invariant.size;
+  counts = c.loop-a.invariant.seen;
+}
 
 pub returns-clause-whole : goal.returns-clause-whole
 returns-clause-whole c =

@@ -1,7 +1,7 @@
 use Rattle.std.proofs.Common.{◌≡◌, ℕ, ◌+◌, Option, sym, ap, subst, ◌∙◌, arith}
 use Rattle.za_alpha.specs.Procs.{members}
-use Rattle.za_views.specs.Events.{known_by}
-use Rattle.za_views.specs.Newest.{later, IsNewest}
+use Rattle.za_views.specs.Private.Events.{known_by}
+use Rattle.za_views.specs.Private.Newest.{later, IsNewest}
 use Rattle.za_views.proofs.NewestSteps.{newest-met, newest-apart}
 use Rattle.za_views.proofs.entries.newest.Goals as goal
 use Rattle.za_views.proofs.entries.newest.Goals.{then-has, else-has}

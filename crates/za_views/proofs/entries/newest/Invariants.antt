@@ -1,6 +1,6 @@
 use Rattle.za_alpha.specs.Procs.{members}
-use Rattle.za_views.specs.Events.{known_by}
-use Rattle.za_views.specs.Newest.{IsNewest}
+use Rattle.za_views.specs.Private.Events.{known_by}
+use Rattle.za_views.specs.Private.Newest.{IsNewest}
 use Rattle.za_views.proofs.entries.newest.Given as goal
 
 -- the newest of the processes so far

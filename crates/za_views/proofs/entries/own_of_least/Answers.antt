@@ -1,6 +1,6 @@
 use Rattle.std.proofs.Common.{ap, sym}
 use Rattle.za_alpha.specs.Procs.{members}
-use Rattle.za_views.specs.Events.{entry}
+use Rattle.za_views.specs.Private.Events.{entry}
 use Rattle.za_views.proofs.LeastPlaces.{least-of}
 use Rattle.za_views.proofs.entries.own_of_least.Goals as goal
 

@@ -1,7 +1,7 @@
 use Rattle.std.proofs.Common.{◌<◌, ◌≢◌, ◌∙◌, ℕ, length-set, List, Option, None, length, sym, subst, arith, below_more, get_or-set_same, get_or-set_other}
 use Rattle.za_alpha.specs.Procs.{members}
-use Rattle.za_views.specs.Events.{known_by}
-use Rattle.za_views.specs.Newest.{IsJoined}
+use Rattle.za_views.specs.Private.Events.{known_by}
+use Rattle.za_views.specs.Private.Newest.{IsJoined}
 use Rattle.za_views.proofs.entries.past_of_next.Goals as goal
 
 pub loop-q-preserved : goal.loop-q-preserved

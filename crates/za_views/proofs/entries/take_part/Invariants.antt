@@ -1,7 +1,7 @@
 use Rattle.std.proofs.Common.{◌≡◌, ℕ, ◌<◌, ◌≤◌, Some, if◌then◌else◌}
 use Rattle.za_alpha.specs.Words.{has}
 use Rattle.za_alpha.specs.Procs.{members}
-use Rattle.za_views.specs.Events.{entry}
+use Rattle.za_views.specs.Private.Events.{entry}
 use Rattle.za_views.proofs.entries.take_part.Given as goal
 
 -- the entries so far are made, and the others as they were

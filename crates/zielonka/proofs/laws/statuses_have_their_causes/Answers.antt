@@ -1,4 +1,4 @@
-use Rattle.zielonka.proofs.Causes.{usage, words_decide, not_built, words_decide_not_built, read_fault, write_fault, too_long, too_many_decide, too_many_complete, no_memory, all_read, known, completes}
+use Rattle.zielonka.proofs.Causes.{usage, words_decide, not_built, words_decide_not_built, read_fault, write_fault, counts, too_long, too_many_decide, too_many_complete, no_memory, all_read, known, completes}
 use Rattle.zielonka.proofs.laws.statuses_have_their_causes.Goals as goal
 
 pub returns-clause-usage : goal.returns-clause-usage
@@ -18,6 +18,9 @@ returns-clause-read_fault c = read_fault
 
 pub returns-clause-write_fault : goal.returns-clause-write_fault
 returns-clause-write_fault c = write_fault
+
+pub returns-clause-counts : goal.returns-clause-counts
+returns-clause-counts c = counts
 
 pub returns-clause-too_long : goal.returns-clause-too_long
 returns-clause-too_long c = too_long

@@ -10,14 +10,18 @@ returns-in-Err-Fault g c =
     λ words asks. ReadFault c.args.command asks read.0 read.1 (refl, refl)
 
 pub returns-in-Err-OutOfMemory : goal.returns-in-Err-OutOfMemory
-returns-in-Err-OutOfMemory g c = λ words asks. NoMemory (refl, refl)
+returns-in-Err-OutOfMemory g c =
+    let read = rw c.in-Err-OutOfMemory.field-0-is at c.in-Err-OutOfMemory.ensures in
+    λ words asks. NoMemory read.0 read.1 (refl, refl)
 
 pub returns-in-Err-TooLong : goal.returns-in-Err-TooLong
 returns-in-Err-TooLong g c =
-    λ words asks. said-run words _ _ 9 too_long_text (TooLong c.args.command asks (rw c.in-Err-TooLong.field-0-is at c.in-Err-TooLong.ensures).0) c.say.ensures
+    λ words asks. said-run words _ _ 9 too_long_text (TooLong c.args.command asks (rw c.in-Err-TooLong.field-0-is at c.in-Err-TooLong.ensures)) c.say.ensures
 
 pub returns-in-Err : goal.returns-in-Err
-returns-in-Err g c = λ words asks. NoMemory (refl, refl)
+returns-in-Err g c =
+    let read = c.in-Ok.ensures in
+    λ words asks. NoMemory (c.in-Ok.bytes.items, (read.1, read.0)) read.3 (refl, refl)
 
 pub returns : goal.returns
 returns g c =
@@ -26,7 +30,7 @@ returns g c =
     let text = c.as_slice-in-Ok-output_of.result.now in
     λ words asks.
     said-run words _ _ output.status text
-    (Said c.args.command bytes output.status text asks (c.in-Ok.ensures.0, c.in-Ok.ensures.1, c.in-Ok.ensures.2)
+    (Said c.args.command bytes output.status text asks c.in-Ok.ensures
     (subst (λ t. IsOutput c.args.command bytes output.status t) (sym c.as_slice-in-Ok-output_of.ensures.value)
     (subst (λ b. IsOutput c.args.command b output.status output.text.items) c.as_slice.ensures.value c.in-Ok-output_of.ensures)))
     c.say-in-Ok-output_of.ensures

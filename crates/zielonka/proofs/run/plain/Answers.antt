@@ -1,11 +1,11 @@
 use Rattle.std.proofs.Common.{sym, ◌∙◌, refl}
 use Rattle.zielonka.specs.Output.{usage_text, not_built_text}
 use Rattle.zielonka.specs.Run.{Usage, NotBuilt, NoMemory}
-use Rattle.zielonka.proofs.RunLemmas.{said-run}
+use Rattle.zielonka.proofs.RunLemmas.{said-run, took-nothing}
 use Rattle.zielonka.proofs.run.plain.Goals as goal
 
 pub returns-in-Err : goal.returns-in-Err
-returns-in-Err g c = NoMemory (refl, refl)
+returns-in-Err g c = NoMemory (took-nothing _) refl (refl, refl)
 
 pub returns-in-Ok-Usage : goal.returns-in-Ok-Usage
 returns-in-Ok-Usage g c =

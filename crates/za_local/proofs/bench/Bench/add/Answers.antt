@@ -1,18 +1,18 @@
-use Rattle.std.proofs.Common.{◌≡◌, ℕ, ◌+◌, ◌<◌, [], ◌∷◌, ◌++◌, length, take, slice_set, sym, ap, ◌∙◌, arith, add-one}
-use Rattle.std.proofs.Math.Seq.{take-suc-set}
+use Rattle.std.proofs.Common.{◌≡◌, ℕ, ◌+◌, [], ◌∷◌, ◌++◌, length, take, slice_set, sym, ap, ◌∙◌, arith}
 use Rattle.std.proofs.lemmas.List.{length-set}
 use Rattle.std.proofs.lemmas.List.Elements.{All-set}
 use Rattle.za_gossip.specs.Rows.{Rows}
 use Rattle.za_residue.specs.Functions.{Functions}
 use Rattle.za_local.specs.Locals.{LocalState}
 use Rattle.za_local.specs.Benches.{LocalStates, paired}
-use Rattle.za_local.proofs.Benches.{room-more, length-gossips, length-residues}
+use Rattle.za_local.proofs.Benches.{room-more, paired-next}
 use Rattle.za_local.proofs.LocalLaws.{same-locals}
-use Rattle.za_local.proofs.Paired.{paired-more, same-benches}
+use Rattle.za_local.proofs.Paired.{same-benches}
 use Rattle.za_local.proofs.bench.Bench.add.Goals as goal
 
 pub index_mut-requires : goal.index_mut-requires
-index_mut-requires c = let l = room-more c.self.inside c.self.invariant c.args.self.now c.self.view_is c.requires.room in let long = c.self.invariant.gossips in let v = c.self.inside.gossips.ok.0 in omega arith
+index_mut-requires c = let l = room-more c.self.inside c.self.invariant c.args.self.now c.self.view_is c.requires.room in let long =
+    c.self.invariant.gossips in let v = c.self.inside.gossips.ok.0 in omega arith
 
 pub copy_from-requires : goal.copy_from-requires
 copy_from-requires c =
@@ -24,7 +24,8 @@ copy_from-requires c =
 
 pub index_mut-requires-2 : goal.index_mut-requires-2
 index_mut-requires-2 c =
-    let l = room-more c.self.inside c.self.invariant c.args.self.now c.self.view_is c.requires.room in let long = c.self.invariant.residues in let v = c.self.inside.residues.ok.0 in omega arith
+    let l = room-more c.self.inside c.self.invariant c.args.self.now c.self.view_is c.requires.room in let long = c.self.invariant.residues in let v =
+    c.self.inside.residues.ok.0 in omega arith
 
 pub copy_from-requires-2-clause-processes : goal.copy_from-requires-2-clause-processes
 copy_from-requires-2-clause-processes c =
@@ -65,26 +66,23 @@ invariant_of-self c =
 pub returns : goal.returns
 returns c =
     let inside = c.self.inside in
-    let room = c.self.invariant in
     let len : ℕ = inside.len in
     let g : Rows = c.copy_from.new.self in
     let r : Functions = c.copy_from-2.new.self in
     let l = room-more c.self.inside c.self.invariant c.args.self.now c.self.view_is c.requires.room in
-    let gossips = room.gossips in
-    let residues = room.residues in
-    let first : take (len + 1) (slice_set inside.gossips.items len g) ≡ take len inside.gossips.items ++ g ∷ [] =
-    ap (λ k. take k (slice_set inside.gossips.items len g)) (add-one len) ∙ take-suc-set inside.gossips.items len g (omega arith) in
-    let second : take (len + 1) (slice_set inside.residues.items len r) ≡ take len inside.residues.items ++ r ∷ [] =
-    ap (λ k. take k (slice_set inside.residues.items len r)) (add-one len) ∙ take-suc-set inside.residues.items len r (omega arith) in
     let one : LocalState = record { gossip = g; residues = r } in
-    let local : one ≡ c.args.local.now = same-locals one c.args.local.now (c.copy_from.ensures ∙ c.gossip.ensures) (c.copy_from-2.ensures ∙ c.residues.ensures) in
+    let local : one ≡ c.args.local.now = same-locals one c.args.local.now (c.copy_from.ensures ∙ c.gossip.ensures) (c.copy_from-2.ensures ∙ c.residues.ensures)
+    in
     same-benches
-    (record { processes = inside.processes; states = inside.states; locals = paired (take (len + 1) (slice_set inside.gossips.items len g)) (take (len + 1) (slice_set inside.residues.items len r)) })
+    (record {
+      processes = inside.processes;
+      states = inside.states;
+      locals = paired (take (len + 1) (slice_set inside.gossips.items len g))
+          (take (len + 1) (slice_set inside.residues.items len r));
+    })
     (record { processes = c.args.self.now.processes; states = c.args.self.now.states; locals = c.args.self.now.locals ++ c.args.local.now ∷ [] })
     (ap (λ (b : LocalStates). b.processes) c.self.view_is)
     (ap (λ (b : LocalStates). b.states) c.self.view_is)
-    (ap (λ gs. paired gs (take (len + 1) (slice_set inside.residues.items len r))) first
-    ∙ ap (paired (take len inside.gossips.items ++ g ∷ [])) second
-    ∙ paired-more (take len inside.gossips.items) (take len inside.residues.items) g r (length-gossips inside room ∙ sym (length-residues inside room))
+    (paired-next inside c.self.invariant g r l
     ∙ ap (λ ls. ls ++ one ∷ []) (ap (λ (b : LocalStates). b.locals) c.self.view_is)
     ∙ ap (λ o. c.args.self.now.locals ++ o ∷ []) local)

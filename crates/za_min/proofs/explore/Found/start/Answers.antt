@@ -1,5 +1,5 @@
 use Rattle.std.proofs.Common.{ap, slice_index, ◌∙◌, ◌++◌, ◌∷◌, [], arith}
-use Rattle.za_min.specs.Exploring.{merged_of}
+use Rattle.za_min.specs.Private.Exploring.{merged_of}
 use Rattle.za_min.proofs.FoundSteps.{classes-length, visited-start}
 use Rattle.za_min.proofs.explore.Found.start.Goals as goal
 

@@ -1,5 +1,5 @@
 use Rattle.std.proofs.Common.{◌≡◌, ◌≢◌, ◌<◌, ℕ, List, subst, length, slice_index}
-use Rattle.za_min.specs.Exploring.{merged_of}
+use Rattle.za_min.specs.Private.Exploring.{merged_of}
 use Rattle.za_min.proofs.FoundSteps.{visited-there, visited-new}
 use Rattle.za_min.proofs.explore.Found.visit.Goals as goal
 

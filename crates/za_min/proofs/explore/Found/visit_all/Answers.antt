@@ -1,5 +1,5 @@
 use Rattle.std.proofs.Common.{◌≡◌, ap, subst, length, arith}
-use Rattle.za_min.specs.Exploring.{merged_of, AreFoundStates}
+use Rattle.za_min.specs.Private.Exploring.{merged_of, AreFoundStates}
 use Rattle.za_min.proofs.FoundSteps.{visited-row}
 use Rattle.za_min.proofs.explore.Found.visit_all.Goals as goal
 

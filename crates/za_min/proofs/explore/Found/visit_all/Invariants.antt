@@ -1,5 +1,5 @@
 use Rattle.std.proofs.Common.{◌<◌, length}
-use Rattle.za_min.specs.Exploring.{merged_of, AreFoundStates}
+use Rattle.za_min.specs.Private.Exploring.{merged_of, AreFoundStates}
 use Rattle.za_min.proofs.explore.Found.visit_all.Given as goal
 
 -- the letters so far are done

@@ -7,7 +7,8 @@ use Rattle.za_residue.proofs.residues.Residues.blank.Goals.{After-loop-i}
 pub loop-i-preserved : goal.loop-i-preserved
 loop-i-preserved c =
     let f : ℕ → ℕ = λ i. i % c.args.states in
-    c.in_ok-push.ensures.items ∙ ap (λ (xs : List ℕ). xs ++ f c.loop-i.i ∷ []) c.loop-i.invariant ∙ sym (map-range_with_len_more f 0 c.loop-i.i c.loop-i.i (omega arith))
+    c.in_ok-push.ensures.items ∙ ap (λ (xs : List ℕ). xs ++ f c.loop-i.i ∷ []) c.loop-i.invariant
+    ∙ sym (map-range_with_len_more f 0 c.loop-i.i c.loop-i.i (omega arith))
 
 -- as many as sets and states
 size : (c : After-loop-i) → c.loop-i.i ≡ 2 ^ c.args.n * c.args.states
@@ -26,6 +27,7 @@ invariant_of-result c = record {
       let long = ap length c.loop-i.invariant ∙ length-map-range_with_len (λ i. i % c.args.states) 0 c.loop-i.i in
       let all = size c in
       let P : ℕ → Type 0 = λ v. v < c.args.states in
-      subst P (sym (ap (λ xs. get_or xs k d) c.loop-i.invariant ∙ get_or-map-range_with_len (λ i. i % c.args.states) 0 c.loop-i.i k k d (omega arith) (omega arith)))
+      subst P (sym (ap (λ xs. get_or xs k d) c.loop-i.invariant ∙ get_or-map-range_with_len (λ i. i % c.args.states) 0 c.loop-i.i k k d (omega arith)
+      (omega arith)))
       (row_of_cell k (2 ^ c.args.n) c.args.states (omega arith)).1;
 }

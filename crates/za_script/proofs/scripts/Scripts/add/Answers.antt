@@ -1,7 +1,7 @@
 use Rattle.std.proofs.Common.{◌≡◌, ◌<◌, ◌∷◌, ◌++◌, [], length, arith}
 use Rattle.std.proofs.lemmas.Grind.{common_steps}
 use Rattle.za_script.specs.ScriptLists.{script_of, total_of}
-use Rattle.za_script.specs.declared.fault.TheConstants.{MOST_SCRIPT_LETTERS}
+use Rattle.za_script.specs.Limits.{most_script_letters}
 use Rattle.za_script.proofs.Totals.{total_of-add, AreScripts-add}
 use Rattle.za_script.proofs.scripts.Scripts.add.Goals as goal
 
@@ -13,5 +13,5 @@ invariant_of-self-2 c =
     let more = total_of-add scripts c.args.p c.args.a.0 within in
     let was = c.self.invariant.counted in
     let few = c.self.invariant.limits.few_letters in
-    let room : total_of scripts < MOST_SCRIPT_LETTERS = omega arith in
+    let room : total_of scripts < most_script_letters = omega arith in
     rw new (record { counted = omega arith; limits = AreScripts-add scripts c.args.p c.args.a.0 within c.self.invariant.limits room })

@@ -5,7 +5,7 @@ use Rattle.za_alpha.specs.Procs.{members}
 use Rattle.za_alpha.specs.Alphabet.{loc_of}
 use Rattle.za_script.specs.Scripts.{comes_next}
 use Rattle.za_script.specs.ScriptLists.{script_of}
-use Rattle.za_script.specs.Weaving.{set_at}
+use Rattle.za_script.specs.Private.Weaving.{set_at}
 use Rattle.za_script.proofs.Totals.{length-le-total}
 use Rattle.za_script.proofs.Firing.{place-below, IsFiring, firing-skip, firing-move}
 use Rattle.za_script.proofs.weaving.Weaving.fire.Goals as goal

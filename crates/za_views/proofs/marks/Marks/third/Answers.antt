@@ -1,6 +1,6 @@
 use Rattle.std.proofs.Common.{ap, ◌∙◌}
 use Rattle.std.specs.Prelude.{option_and_then}
-use Rattle.za_views.specs.Events.{known}
+use Rattle.za_views.specs.Private.Events.{known}
 use Rattle.za_views.proofs.KeptMarks.{kept-marked}
 use Rattle.za_views.proofs.MarkedEntries.{second-among, third-is}
 use Rattle.za_views.proofs.marks.Marks.third.Goals as goal

@@ -1,7 +1,0 @@
-use Rattle.std.proofs.Common.{◌≡◌, take, map}
-use Rattle.za_alpha.specs.Alphabet.{letter_of_entry}
-use Rattle.za_alpha.proofs.rows.copies_of.Given as goal
-
--- the entries so far are copied
-abbrev pub invariant-loop-entry : goal.invariant-loop-entry
-invariant-loop-entry l = map letter_of_entry l.copies.items ≡ map letter_of_entry (take l.entry-index l.entries)

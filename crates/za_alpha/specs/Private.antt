@@ -1,0 +1,4 @@
+pub mod Index
+pub mod Begun
+pub mod Whole
+pub mod NextRow

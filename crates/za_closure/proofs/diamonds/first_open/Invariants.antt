@@ -1,9 +1,0 @@
-use Rattle.std.proofs.Common.{ℕ, ◌<◌}
-use Rattle.za_alpha.specs.Alphabet.{loc_of}
-use Rattle.za_dfa.specs.Tables.{automaton_of}
-use Rattle.za_closure.specs.Open.{IsOpenAt}
-use Rattle.za_closure.proofs.diamonds.first_open.Given as goal
-
--- no state so far has an open diamond
-abbrev pub invariant-loop-q : goal.invariant-loop-q
-invariant-loop-q l = (p x y : ℕ) → p < l.q → ¬ IsOpenAt (loc_of l.dfa.alphabet) (automaton_of l.dfa) p x y

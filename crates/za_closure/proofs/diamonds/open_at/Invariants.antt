@@ -1,9 +1,0 @@
-use Rattle.std.proofs.Common.{ℕ, ◌<◌}
-use Rattle.za_alpha.specs.Alphabet.{loc_of}
-use Rattle.za_dfa.specs.Tables.{automaton_of}
-use Rattle.za_closure.specs.Open.{IsOpenAt}
-use Rattle.za_closure.proofs.diamonds.open_at.Given as goal
-
--- no letter so far has an open diamond
-abbrev pub invariant-loop-a : goal.invariant-loop-a
-invariant-loop-a l = (x y : ℕ) → x < l.a → ¬ IsOpenAt (loc_of l.dfa.alphabet) (automaton_of l.dfa) l.q x y

@@ -1,0 +1,3 @@
+pub mod Diamonds
+pub mod Entered
+pub mod Views

@@ -1,0 +1,4 @@
+pub mod Inside
+pub mod Gathering
+pub mod Letters
+pub mod Reading

@@ -1,0 +1,4 @@
+pub mod States
+pub mod Ends
+pub mod Moves
+mod Examples

@@ -1,0 +1,5 @@
+pub mod Machine
+pub mod Hands
+pub mod Answer
+pub mod Laws
+pub mod Private

@@ -1,9 +1,0 @@
-use Rattle.za_alpha.specs.Words.{least}
-use Rattle.za_dfa.specs.Tables.{automaton_of}
-use Rattle.za_min.specs.Rounds.{same_end}
-use Rattle.za_min.proofs.RoundSteps.{class-more}
-use Rattle.za_min.proofs.classes.Classes.first.Goals as goal
-
-pub loop-q-preserved : goal.loop-q-preserved
-loop-q-preserved c =
-    class-more (λ q. least (λ r. same_end (automaton_of c.args.dfa.now) r q) c.args.dfa.now.states) c.loop-q.q c.first_at.result c.loop-q.names.items c.push.new.self.items c.in_ok-push.ensures.items c.loop-q.invariant c.first_at.ensures

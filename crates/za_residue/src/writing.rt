@@ -1,0 +1,139 @@
+//! The functions after an event, written block by block.
+
+ghost use Rattle.std.specs.Prelude.{◌≡◌, ℕ, ◌+◌, ◌*◌, ◌^◌, ◌<◌, ◌≤◌, List, length, slice_index, IsFalse};
+ghost use Rattle.za_alpha.specs.Words.{has, meets};
+ghost use Rattle.za_alpha.specs.Procs.{members};
+ghost use Rattle.za_alpha.specs.Alphabet.{loc_of};
+ghost use Rattle.za_dfa.specs.Tables.{IsComplete};
+ghost use Rattle.za_residue.specs.Laws.{in_turn};
+ghost use Rattle.za_residue.specs.Private.Turns.{turn_of, AreOmitted, CanBeTaken};
+ghost use Rattle.za_residue.specs.Private.Written.{AreSteps, AreGiven, AreWritten};
+
+use crate::leaving::{are_equal, joined_sets};
+use crate::masks::Masks;
+use crate::residues::{Residues, set_count};
+use za_alpha::{Letter, MOST_PROCESSES, Procs};
+use za_dfa::{Closed, MOST_STATES};
+
+/// The most states of a table: those of a document, and the added one.
+const TABLE_STATES: usize = MOST_STATES + 1;
+
+/// Writes the functions after the event for a set, which has no participant, with each set of the
+/// first `processes` processes: half of them without the last of these, and then the others. Where
+/// the last changes nothing of what is left out of the inputs, the others are the same.
+pub(crate) fn write_sets(
+    closed: &Closed,
+    a: Letter,
+    steps: &[u8],
+    inputs: &[Residues],
+    masks: &Masks,
+    set: Procs,
+    processes: usize,
+    omitted: &[Procs; MOST_PROCESSES],
+    block: &mut [u8],
+)
+    requires letter { a.0 < length closed.now.alphabet.letters }
+    requires given { (w : List ℕ) × AreGiven closed.now a.0 inputs.now masks.now w }
+    requires steps { AreSteps closed.now a.0 steps.now }
+    requires processes { processes ≤ closed.now.alphabet.processes }
+    requires apart { IsFalse (meets (members set) (loc_of closed.now.alphabet a.0)) }
+    requires omitted { AreOmitted masks.now closed.now.alphabet.processes (has (members set)) (length inputs.now)
+        omitted.now }
+    requires block { length block.old ≡ 2 ^ processes * closed.now.states }
+    ensures { AreWritten closed.now a.0 inputs.now masks.now (has (members set)) (2 ^ processes) block.new }
+{
+    let dfa = closed.dfa();
+    let states = dfa.states();
+    if processes == 0 {
+        write_composed(states, inputs, omitted, block);
+        follow(steps, block);
+        return;
+    }
+    let r = processes - 1;
+    let half = set_count(r) * states;
+    let (low, high) = block.split_at_mut(half);
+    write_sets(closed, a, steps, inputs, masks, set, r, omitted, low);
+    if dfa.alphabet().loc(a).has(r) {
+        write_identities(r, states, high);
+        return;
+    }
+    let more = joined_sets(masks, omitted, r, inputs.len());
+    if are_equal(&more, omitted, inputs.len()) {
+        high.copy_from_slice(low);
+        return;
+    }
+    write_sets(closed, a, steps, inputs, masks, set.with(r), r, &more, high);
+}
+
+/// Writes each state, for each set of so many processes.
+fn write_identities(processes: usize, states: usize, block: &mut [u8])
+    requires processes { processes ≤ 16 }
+    requires states { states ≤ 256 }
+    requires block { length block.old ≡ 2 ^ processes * states }
+    ensures { (m q : ℕ) → m < 2 ^ processes → q < states → slice_index block.new (m * states + q) ≡ q }
+{
+    if processes == 0 {
+        write_identity(block);
+        return;
+    }
+    let r = processes - 1;
+    let half = set_count(r) * states;
+    let (low, high) = block.split_at_mut(half);
+    write_identities(r, states, low);
+    high.copy_from_slice(low);
+}
+
+/// Where the letter leads from each state, by state.
+pub(crate) fn column(closed: &Closed, a: Letter) -> [u8; TABLE_STATES]
+    requires letter { a.0 < length closed.now.alphabet.letters }
+    ensures whole { IsComplete closed.now }
+    ensures steps { AreSteps closed.now a.0 result }
+{
+    let mut column = [0; TABLE_STATES];
+    for q in 0..closed.dfa().states() {
+        column[q] = closed.dfa().step(q as u8, a);
+    }
+    column
+}
+
+/// Writes each state.
+fn write_identity(block: &mut [u8])
+    requires { length block.old ≤ 256 }
+    ensures { (q : ℕ) → q < length block.old → slice_index block.new q ≡ q }
+{
+    for q in 0..block.len() {
+        block[q] = q as u8;
+    }
+}
+
+/// Writes where the functions of the inputs lead from each state, each for its omitted set, in turn.
+fn write_composed(
+    states: usize,
+    inputs: &[Residues],
+    omitted: &[Procs; MOST_PROCESSES],
+    block: &mut [u8],
+)
+    requires state { 0 < states }
+    requires some { 0 < length inputs.now }
+    requires block { length block.old ≡ states }
+    requires taken { (q : ℕ) → q < states → (taken : CanBeTaken inputs.now omitted.now q) × (taken.states ≡ states) }
+    ensures written { (q : ℕ) → q < states → slice_index block.new q
+        ≡ in_turn (turn_of inputs.now omitted.now) (length inputs.now) q }
+    ensures within { (q : ℕ) → q < states → slice_index block.new q < states }
+{
+    block.copy_from_slice(inputs[0].function(omitted[0]));
+    for i in 1..inputs.len() {
+        follow(inputs[i].function(omitted[i]), block);
+    }
+}
+
+/// Goes on from each entry by a function.
+fn follow(function: &[u8], block: &mut [u8])
+    requires { (q : ℕ) → q < length block.old → slice_index block.old q < length function.now }
+    ensures { (q : ℕ) → q < length block.old → slice_index block.new q
+        ≡ slice_index function.now (slice_index block.old q) }
+{
+    for q in 0..block.len() {
+        block[q] = function[block[q] as usize];
+    }
+}

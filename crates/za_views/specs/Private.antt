@@ -1,0 +1,4 @@
+pub mod Events
+pub mod Newest
+pub mod Taken
+pub mod Kept

@@ -1,9 +1,0 @@
-//! The words of the command line, and what they ask for.
-#![tactic(auto)]
-
-mod command;
-mod plan;
-#[cfg(test)]
-mod tests;
-
-pub use plan::{MOST_CACHE_ROWS, Plan, WordsFault, read_words};
