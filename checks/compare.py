@@ -5,6 +5,8 @@ Each text is given to the built program with the words `solo`, `check` and `loca
 compared: every example, every text that differs in one byte from a small example (removed, doubled, or changed to
 a space, a tab, a letter or a digit; these with `solo`, and every eleventh with the others), and jobs drawn at
 random, closed and not closed.
+
+    checks/compare.py [--long]     --long changes every example, not the small ones alone, and draws 12,000 jobs for 300
 """
 import glob
 import os
@@ -19,7 +21,7 @@ import second_reading  # noqa: E402
 
 PROGRAM = os.path.join(TOP, "crates", "zla", "out", "zla")
 SMALL = ["two_processes", "two_processes_stuck", "one_first"]
-DRAWN = 300
+DRAWN, DRAWN_LONG = 300, 12000
 
 
 def changed(text):
@@ -59,20 +61,20 @@ def drawn(number):
     return ("\n".join(lines + ["end"]) + "\n").encode()
 
 
-def cases():
+def cases(is_long):
     """The words and the texts that are tried."""
     for name in sorted(glob.glob(os.path.join(TOP, "examples", "*.zla"))):
         with open(name, "rb") as file:
             text = file.read()
         for command in second_reading.COMMANDS:
             yield command, text
-        if os.path.basename(name)[: -len(".zla")] in SMALL:
+        if os.path.basename(name)[: -len(".zla")] in SMALL or is_long:
             for at, other in enumerate(sorted(set(changed(text)))):
                 yield "solo", other
                 if at % 11 == 0:
                     yield "check", other
                     yield "locals", other
-    for number in range(DRAWN):
+    for number in range(DRAWN_LONG if is_long else DRAWN):
         text = drawn(number)
         for command in second_reading.COMMANDS:
             yield command, text
@@ -83,7 +85,7 @@ def main():
         sys.exit("second reading: there is no program; ./zla builds it")
     passed = failed = 0
     statuses = {}
-    for command, text in cases():
+    for command, text in cases(sys.argv[1:] == ["--long"]):
         wanted = second_reading.answer(command, text)
         run = subprocess.run([PROGRAM, command], input=text, capture_output=True)
         if (run.returncode, run.stdout) == wanted:
