@@ -1,4 +1,3 @@
 pub mod FewStates
 pub mod BreakWords
 pub mod WithoutLetter
-pub mod Openings

@@ -1,6 +1,7 @@
 //! Callers of za_dfa.
 
-ghost use Rattle.std.specs.Prelude.{◌≡◌, ◌∷◌, [], true, ◌<◌, ◌==◌, ◌&&◌, not, nat_lt, ℕ, List, All, Some, None, length, IfOk, if◌then◌else◌};
+ghost use Rattle.std.specs.Prelude.{◌≡◌, ◌∷◌, [], true, ◌<◌, ◌==◌, ◌&&◌, not, nat_lt, ℕ};
+ghost use Rattle.std.specs.Prelude.{List, All, Some, None, length, IfOk, if◌then◌else◌};
 ghost use Rattle.za_alpha.specs.Words.{has, IsWord, AreEquivalent};
 ghost use Rattle.za_alpha.specs.Alphabet.{loc_of};
 ghost use Rattle.za_dfa.specs.Automata.{is_accepted};

@@ -1,6 +1,7 @@
 -- Letters with one letter more.
 use Rattle.std.proofs.Common.{◌≡◌, ◌≢◌, ℕ, zero, suc, ◌+◌, ◌<◌, ◌≤◌, ◌^◌, Bool, ◌||◌, true, false, inl, inr, not, List, [], ◌∷◌, ◌++◌, length, slice_index, slice_set, Some, None, IsTrue, refl, sym, ap, subst, ◌∙◌, arith, length-append, append_assoc, append-nil, take, get_or, map}
 use Rattle.std.proofs.lemmas.Bool.{cases_eq}
+use Rattle.std.proofs.lemmas.List.{length-map, length-take-le, map-append, take_more}
 use Rattle.std.specs.List.{list_any}
 use Rattle.std.specs.Str.{bytes_eq}
 use Rattle.za_alpha.specs.declared.fault.NameFault.TheVariants.{Bad, Repeated}
@@ -146,7 +147,7 @@ set-some alphabet row right none =
     let e : has [] p.0 ≡ true = sym (ap (λ ps. has ps p.0) none) ∙ row-has alphabet row right p.0 ∙ p.1 in cc
 
 -- names of rows are names of their letters
-taken-map : (rows : List LetterRow) (name : List ℕ) → is_taken (map letter_of_row rows) name ≡ list_any (λ (row : LetterRow). bytes_eq row.name.items name) rows
+pub taken-map : (rows : List LetterRow) (name : List ℕ) → is_taken (map letter_of_row rows) name ≡ list_any (λ (row : LetterRow). bytes_eq row.name.items name) rows
 taken-map [] name = refl
 taken-map (row ∷ rows) name = ap (λ b. bytes_eq row.name.items name || b) (taken-map rows name)
 
@@ -177,3 +178,18 @@ name-repeated letters name i h e = rw (h, taken-some letters name 0 i e) refl
 
 pub name-right : (letters : List NamedLetter) (name : List ℕ) → is_name name ≡ true → place_of letters name ≡ None → name_fault letters name ≡ None
 name-right letters name h e = rw (h, taken-none letters name 0 e) refl
+
+-- the index of the names of one row more
+pub index-rows : (rows : List LetterRow) (a : ℕ) (d : LetterRow) (first next : List ℕ) (key : ℕ) → a < length rows → a < most_letters →
+    AreChains (key_at (map letter_of_row (take a rows))) (length (map letter_of_row (take a rows))) first next →
+    key ≡ key_of (get_or rows a d).name.items → key < keys →
+    AreChains (key_at (map letter_of_row (take (a + 1) rows))) (length (map letter_of_row (take (a + 1) rows))) (slice_set first key (a + 1)) (slice_set next a (slice_index first key))
+index-rows rows a d first next key here room chains same small =
+    let before : List NamedLetter = map letter_of_row (take a rows) in
+    let row : LetterRow = get_or rows a d in
+    let long : length before ≡ a = length-map (take a rows) letter_of_row ∙ length-take-le a rows (omega arith) in
+    let more : map letter_of_row (take (a + 1) rows) ≡ before ++ letter_of_row row ∷ [] =
+    ap (map letter_of_row) (take_more rows a d here) ∙ map-append letter_of_row (take a rows) (row ∷ []) in
+    let grown = index-more before (letter_of_row row) first next key chains (omega arith) same small in
+    let P : List NamedLetter → ℕ → Type 0 = λ ls n. AreChains (key_at ls) (length ls) (slice_set first key (n + 1)) (slice_set next n (slice_index first key)) in
+    subst (λ ls. P ls a) (sym more) (subst (P (before ++ letter_of_row row ∷ [])) long grown)

@@ -61,6 +61,15 @@ taken-none (x ∷ xs) name a h =
       | inr f ↦ rw f (taken-none xs name (a + 1) (sym (cond-false (bytes_eq x.name name) (Some a) (position_from (λ (l : NamedLetter). bytes_eq l.name name) (a + 1) xs) f) ∙ h))
     ]
 
+pub taken-at : (letters : List NamedLetter) (name : List ℕ) (i : ℕ) → i < length letters → name_at letters i ≡ name → is_taken letters name ≡ true
+taken-at [] name i l h = absurd (omega arith)
+taken-at (x ∷ xs) name zero l h = let t : bytes_eq x.name name ≡ true = (bytes_eq-Decides x.name name).1 h in rw t refl
+taken-at (x ∷ xs) name (suc i) l h =
+    elim (cases_Bool (bytes_eq x.name name)) [
+      | inl t ↦ rw t refl
+      | inr f ↦ rw f (taken-at xs name i (omega arith) h)
+    ]
+
 module _ (letters : List NamedLetter) where
   -- found on the chain, or not there
   pub found-on-chain : (name : List ℕ) (i : ℕ) → AreApart letters → i < length letters → name_at letters i ≡ name → Some i ≡ place_of letters name

@@ -7,3 +7,4 @@ pub mod RoundTrip
 pub mod Least
 pub mod Indexed
 pub mod Growing
+pub mod Copies

@@ -1,5 +1,6 @@
 -- What follows where rows have no fault, and of a letter's place.
-use Rattle.std.proofs.Common.{◌≡◌, ℕ, zero, suc, ◌<◌, ◌≤◌, Bool, true, false, ◌||◌, ◌&&◌, eqb, cond, not, List, [], ◌∷◌, length, get_or, map, Option, Some, None, refl, arith}
+use Rattle.std.proofs.Common.{◌≡◌, ℕ, zero, suc, ◌<◌, ◌≤◌, Bool, true, false, ◌||◌, ◌&&◌, eqb, cond, not, List, [], ◌∷◌, ◌+◌, ◌++◌, length, take, drop, get_or, map, Option, Some, None, refl, sym, ap, ◌∙◌, arith, drop-cons}
+use Rattle.std.proofs.lemmas.List.{take_more}
 use Rattle.std.specs.Prelude.{nat_le}
 use Rattle.std.specs.List.{list_any, AllByRecursion}
 use Rattle.std.specs.Option.{option_or}
@@ -8,9 +9,10 @@ use Rattle.std.proofs.lemmas.Bool.Decides.{nat_tests}
 use Rattle.std.specs.Str.{bytes_eq}
 use Rattle.za_alpha.specs.declared.alphabet.LetterRow.{LetterRow}
 use Rattle.za_alpha.specs.declared.letters.Entry.{Entry}
+use Rattle.za_alpha.specs.declared.fault.AlphaFault.{AlphaFault}
 use Rattle.za_names.specs.Names.{is_name}
 use Rattle.za_alpha.specs.Limits.{most_processes, most_letters}
-use Rattle.za_alpha.specs.Rows.{letter_fault, letters_fault, alphabet_fault}
+use Rattle.za_alpha.specs.Rows.{letter_fault, letters_fault, alphabet_fault, letter_of_row}
 use Rattle.za_alpha.specs.Alphabet.{procs_at, name_at}
 use Rattle.za_alpha.specs.Private.Begun.{letter_of_entry}
 
@@ -87,3 +89,20 @@ pub name_at-map : (es : List Entry) (i : ℕ) (d : Entry) → i < length es → 
 name_at-map [] i d h = absurd (omega arith)
 name_at-map (e ∷ es) zero d h = refl
 name_at-map (e ∷ es) (suc i) d h = name_at-map es i d (omega arith)
+
+-- the name of the letter that the row at a place says
+pub name_at-rows : (rows : List LetterRow) (i : ℕ) (d : LetterRow) → i < length rows → name_at (map letter_of_row rows) i ≡ (get_or rows i d).name.items
+name_at-rows [] i d h = absurd (omega arith)
+name_at-rows (row ∷ rows) zero d h = refl
+name_at-rows (row ∷ rows) (suc i) d h = name_at-rows rows i d (omega arith)
+
+-- a row without fault leaves the first fault to the rows after it
+pub fault-later : (n : ℕ) (rows : List LetterRow) (a : ℕ) (d : LetterRow) → a < length rows → letter_fault n (take a rows) (get_or rows a d) ≡ None →
+    letters_fault n (take (a + 1) rows) (drop (a + 1) rows) ≡ letters_fault n (take a rows) (drop a rows)
+fault-later n rows a d here none =
+    let row : LetterRow = get_or rows a d in
+    let next : suc a ≡ a + 1 = omega arith in
+    let first : drop a rows ≡ row ∷ drop (a + 1) rows = drop-cons rows a d here ∙ ap (λ k. row ∷ drop k rows) next in
+    let later : List LetterRow → Option AlphaFault = λ before. letters_fault n before (drop (a + 1) rows) in
+    ap later (take_more rows a d here)
+    ∙ sym (ap (letters_fault n (take a rows)) first ∙ ap (λ (fault : Option AlphaFault). option_or fault (later (take a rows ++ row ∷ []))) none)

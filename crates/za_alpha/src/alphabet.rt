@@ -88,8 +88,7 @@ impl Alphabet {
         self.letters.name(a)
     }
 
-    /// The letter of a name, and `None` exactly where no letter has it. It compares the names
-    /// of its key.
+    /// The letter of a name, and `None` exactly where no letter has it.
     pub fn find(&self, name: &[u8]) -> Option<Letter>
         ensures { option_map (λ (a : Letter). a.0) result ≡ place_of self.now.letters name.now }
     {
@@ -136,8 +135,7 @@ impl Alphabet {
         Ok(seen)
     }
 
-    /// Whether the words have equal projections on every process, so that they are one trace. It
-    /// takes no memory: it walks through both words once for each process.
+    /// Whether the words have equal projections on every process, so that they are one trace.
     pub fn same_trace(&self, u: &Word, v: &Word) -> bool
         requires first { IsWord (length self.now.letters) u.now }
         requires second { IsWord (length self.now.letters) v.now }

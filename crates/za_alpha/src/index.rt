@@ -15,19 +15,16 @@ pub(crate) struct Index {
     pub(crate) next: [u8; MOST_LETTERS],
 }
 
-/// The key of a name: of its length, and of its first, middle and last byte.
+/// The key of a name, made byte by byte.
 pub(crate) fn key_of(name: &[u8]) -> usize
     ensures value { result ≡ key_of name.now }
     ensures small { result < keys }
 {
-    let n = name.len();
-    if n == 0 {
-        return 0;
+    let mut key = 0;
+    for b in name {
+        key = (key * 37 + *b as usize) % KEYS;
     }
-    let first = name[0] as usize;
-    let middle = name[n / 2] as usize;
-    let last = name[n - 1] as usize;
-    (first * 5 + middle * 16 + last + n % KEYS * 3) % KEYS
+    key
 }
 
 /// The last letters of the keys where there are none.

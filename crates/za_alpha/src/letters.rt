@@ -129,7 +129,7 @@ impl Letters {
     }
 
     /// What is wrong with the name of one letter more: that it is no name, and then that a letter
-    /// has it. It compares the names of its key.
+    /// has it.
     pub fn name_fault(&self, name: &[u8]) -> Option<NameFault>
         ensures { result ≡ name_fault self.now.letters name.now }
     {

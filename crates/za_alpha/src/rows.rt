@@ -1,14 +1,16 @@
-ghost use Rattle.std.specs.Prelude.{◌≡◌, ◌<◌, ◌↔◌, ◌∷◌, ◌++◌, [], IsTrue, All, OnOk, OnErr, length, nat_le};
+ghost use Rattle.std.specs.Prelude.{◌≡◌, ◌<◌, ◌↔◌, ◌∷◌, ◌++◌, [], IsTrue, All, OnOk, OnErr, length, map, nat_le};
 ghost use Rattle.std.specs.List.{list_any};
 ghost use Rattle.std.specs.Str.{bytes_eq};
 ghost use Rattle.za_alpha.specs.Limits.{most_letters};
 ghost use Rattle.za_alpha.specs.Words.{IsWord};
 ghost use Rattle.za_alpha.specs.Letters.{numbers};
 ghost use Rattle.za_alpha.specs.Rows.{letter_fault, alphabet_fault, set_of, letter_of_row};
+ghost use Rattle.za_alpha.specs.Private.Index.{IsIndex};
 ghost use Rattle.za_alpha.specs.Private.NextRow.{IsNextRow};
 
 use crate::alphabet::LetterRow;
 use crate::fault::{AlphaFault, OutOfMemory};
+use crate::index::{Index, key_of};
 use crate::letters::Letters;
 use crate::procs::Procs;
 use crate::word::Letter;
@@ -20,10 +22,20 @@ pub const MOST_PROCESSES: usize = 10;
 /// The most letters of an alphabet.
 pub const MOST_LETTERS: usize = 128;
 
-fn is_named(rows: &[LetterRow], name: &[u8]) -> bool
+/// Whether one of the rows has the name, by the index of their names.
+fn is_named(rows: &[LetterRow], index: &Index, name: &[u8]) -> bool
+    requires { IsIndex (map letter_of_row rows.now) index.now }
     ensures { result ≡ list_any (λ row. bytes_eq row.name.items name.now) rows.now }
 {
-    rows.iter().any(|row| row.name.as_slice() == name)
+    let mut at = index.first[key_of(name)] as usize;
+    'chain: while 0 < at {
+        let i = at - 1;
+        if rows[i].name.as_slice() == name {
+            return true;
+        }
+        at = index.next[i] as usize;
+    }
+    false
 }
 
 fn has_from(procs: &[u32], processes: usize) -> bool
@@ -32,16 +44,22 @@ fn has_from(procs: &[u32], processes: usize) -> bool
     procs.iter().any(|p| processes <= *p as usize)
 }
 
-/// The first test of a row that fails.
+/// The first test of a row that fails, after the rows before it and by the index of their names.
 #[tactic(auto, unfolding(crate::specs::Rows::letter_fault))]
-fn fault_of_row(processes: usize, before: &[LetterRow], row: &LetterRow) -> Option<AlphaFault>
+fn fault_of_row(
+    processes: usize,
+    before: &[LetterRow],
+    index: &Index,
+    row: &LetterRow,
+) -> Option<AlphaFault>
+    requires { IsIndex (map letter_of_row before.now) index.now }
     ensures { result ≡ letter_fault processes before.now row.now }
 {
     let at = before.len();
     if !is_name(row.name.as_slice()) {
         return Some(AlphaFault::BadName { at });
     }
-    if is_named(before, row.name.as_slice()) {
+    if is_named(before, index, row.name.as_slice()) {
         return Some(AlphaFault::RepeatedName { at });
     }
     if row.procs.is_empty() {
@@ -63,10 +81,12 @@ pub(crate) fn fault_of(processes: usize, rows: &[LetterRow]) -> Option<AlphaFaul
     if !(1 <= rows.len() && rows.len() <= MOST_LETTERS) {
         return Some(AlphaFault::LetterCount);
     }
+    let mut index = Index::new();
     for (at, row) in rows.iter().enumerate() {
-        if let Some(fault) = fault_of_row(processes, &rows[..at], row) {
+        if let Some(fault) = fault_of_row(processes, &rows[..at], &index, row) {
             return Some(fault);
         }
+        index.add(at, key_of(row.name.as_slice()));
     }
     None
 }

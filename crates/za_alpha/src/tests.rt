@@ -34,41 +34,94 @@ fn assert_letters(rt: &impl Abort, word: &Word, letters: &[u8]) {
     }
 }
 
+/// The letters `a 0`, `b 1` and `c 0 1`, which name process 1 first and 0 last.
+fn two_processes(alloc: Global) -> Result<Alphabet, Fail> {
+    let first = Alphabet::new(alloc, 2, rows(alloc, b"c", &[1, 0, 1])?)?;
+    Ok(first.copy()?)
+}
+
 #[test]
 fn letters_of_two_processes(rt: HostRuntime) -> Result<(), Fail> {
-    let alloc = rt.alloc();
-    let first = Alphabet::new(alloc, 2, rows(alloc, b"c", &[1, 0, 1])?)?;
-    let alphabet = first.copy()?;
+    let alphabet = two_processes(rt.alloc())?;
     assert!(rt; alphabet.processes() == 2 && alphabet.letters() == 3);
     assert!(rt; alphabet.independent(Letter(0), Letter(1)));
     assert!(rt; !alphabet.independent(Letter(0), Letter(2)));
-    assert_eq!(rt; alphabet.name(Letter(2)), b"c".as_slice());
-    assert_eq!(rt; alphabet.find(b"d"), None);
-    let c = alphabet.loc(Letter(2));
-    assert_eq!(rt; (c.count(), c.least()), (2, Some(0)));
-    assert_eq!(rt; (c.is_below(1), c.is_below(2)), (false, true));
-    assert_eq!(rt; Procs::none().with(3).union(c).count(), 3);
+    assert!(rt; alphabet.name(Letter(2)) == b"c".as_slice() && alphabet.find(b"d").is_none());
+    assert!(rt; alphabet.loc(Letter(2)) == Procs(3));
     Ok(())
+}
+
+#[test]
+fn sets_of_processes(rt: HostRuntime) {
+    let set = Procs::none().with(1).with(0);
+    assert!(rt; set.count() == 2 && set.least() == Some(0));
+    assert!(rt; !set.is_below(1) && set.is_below(2));
+    assert!(rt; Procs::none().with(3).union(set).count() == 3);
+    assert!(rt; set.has(1) && !set.has(2) && !set.meets(Procs::none().with(2)));
+}
+
+fn assert_projection(
+    rt: &impl Abort,
+    alphabet: &Alphabet,
+    w: &Word,
+    p: usize,
+    letters: &[u8],
+) -> Result<(), Fail> {
+    assert!(rt; p < alphabet.processes() && alphabet.has_word(w));
+    assert_letters(rt, &alphabet.project(w, p)?, letters);
+    Ok(())
+}
+
+/// Whether `v` is one trace with `a b c a`.
+fn is_one_trace(
+    rt: &impl Abort,
+    alloc: Global,
+    alphabet: &Alphabet,
+    v: &[u8],
+) -> Result<bool, Fail> {
+    let w = word(alloc, &[0, 1, 2, 0])?;
+    let v = word(alloc, v)?.copy()?;
+    assert!(rt; alphabet.has_word(&w) && alphabet.has_word(&v));
+    Ok(alphabet.same_trace(&w, &v))
 }
 
 #[test]
 fn words_of_two_processes(rt: HostRuntime) -> Result<(), Fail> {
     let alloc = rt.alloc();
-    let alphabet = Alphabet::new(alloc, 2, rows(alloc, b"c", &[0, 1])?)?;
+    let alphabet = two_processes(alloc)?;
     let w = word(alloc, &[0, 1, 2, 0])?;
-    assert!(rt; alphabet.processes() == 2 && alphabet.has_word(&w));
-    assert_letters(&rt, &alphabet.project(&w, 0)?, &[0, 2, 0]);
-    assert_letters(&rt, &alphabet.project(&w, 1)?, &[1, 2]);
+    assert_projection(&rt, &alphabet, &w, 0, &[0, 2, 0])?;
+    assert_projection(&rt, &alphabet, &w, 1, &[1, 2])?;
     for (letters, same) in [
         ([1, 0, 2, 0].as_slice(), true),
         ([0, 2, 1, 0].as_slice(), false),
         ([0, 1, 2].as_slice(), false),
     ] {
-        let v = word(alloc, letters)?.copy()?;
-        assert!(rt; alphabet.has_word(&v));
-        assert_eq!(rt; alphabet.same_trace(&w, &v), same, "{letters:?}");
+        assert_eq!(rt;
+            is_one_trace(&rt, alloc, &alphabet, letters)?,
+            same,
+            "{letters:?}"
+        );
     }
     Ok(())
+}
+
+/// Adds a letter of one process, unless its name has a fault.
+fn add(
+    rt: &impl Abort,
+    alloc: Global,
+    letters: &mut Letters,
+    name: &[u8],
+    process: usize,
+) -> Result<Option<NameFault>, Fail> {
+    let fault = letters.name_fault(name);
+    if fault.is_none() {
+        assert!(rt; process < 16 && !letters.is_full());
+        let procs = Procs::none().with(process);
+        assert!(rt; !procs.is_empty() && procs.is_below(letters.processes()));
+        letters.add(Vec::from_slice(alloc, name)?, procs)?;
+    }
+    Ok(fault)
 }
 
 #[test]
@@ -83,13 +136,10 @@ fn letters_one_by_one(rt: HostRuntime) -> Result<(), Fail> {
         (b"b".as_slice(), 0, Some(NameFault::Repeated)),
         (b"c".as_slice(), 1, None),
     ] {
-        let seen = letters.name_fault(name);
-        assert_eq!(rt; seen, fault, "{name:?}");
-        let procs = Procs::none().with(process);
-        assert!(rt; !letters.is_full() && !procs.is_empty() && procs.is_below(letters.processes()));
-        if seen.is_none() {
-            letters.add(Vec::from_slice(alloc, name)?, procs)?;
-        }
+        assert!(rt;
+            add(&rt, alloc, &mut letters, name, process)? == fault,
+            "{name:?}"
+        );
     }
     assert!(rt; letters.len() == 3 && letters.processes() == 2);
     let alphabet = letters.into_alphabet();
@@ -98,7 +148,7 @@ fn letters_one_by_one(rt: HostRuntime) -> Result<(), Fail> {
         (b"b".as_slice(), 1),
         (b"c".as_slice(), 2),
     ] {
-        assert_eq!(rt; alphabet.find(name), Some(Letter(place)));
+        assert!(rt; alphabet.find(name) == Some(Letter(place)), "{name:?}");
     }
     Ok(())
 }

@@ -24,10 +24,11 @@ const PIECE: usize = 4096;
 
 /// Reads a source to its end, and gives all bytes that it had left, at most `limit`.
 ///
-/// `TooLong` comes exactly where `limit + 1` bytes were taken, and more are never asked for.
-/// `Fault` comes only where the source's count of faults rose in this call, or stands at its last
-/// value; after any other answer the count is what it was, so no read is tried again after a fault.
-/// After an error the bytes taken are gone.
+/// `TooLong` comes exactly where `limit + 1` bytes were taken; with any other answer at most `limit`
+/// were. `Fault` comes only where the source's count of faults rose in this call, or stands at its last
+/// value; after any other answer the count is what it was. After an error the source has left what
+/// comes after the bytes taken. What is said of bytes holds where the source tells those that it has
+/// left.
 pub fn read_all<S: Source>(alloc: Global, source: &mut S, limit: usize) -> Result<Vec<u8>, ReadEnd>
     requires { limit < 4294967295 }
     ensures { HasRead limit (S.left source.old) (S.left source.new)

@@ -31,7 +31,7 @@ pub struct StdSource<R: Read> {
 impl<R: Read> StdSource<R> {
     ghost use Rattle.za_base.specs.StdEnds.{source_reader, source_faults};
 
-    /// A source with no fault so far. It takes no memory.
+    /// A source with no fault so far.
     pub fn new(inner: R) -> StdSource<R>
         ensures reader { source_reader result ≡ inner }
         ensures faults { source_faults result ≡ 0 }
@@ -81,7 +81,7 @@ pub struct StdSink<W: Write> {
 impl<W: Write> StdSink<W> {
     ghost use Rattle.za_base.specs.StdEnds.{sink_writer, sink_faults};
 
-    /// A sink with no fault so far. It takes no memory.
+    /// A sink with no fault so far.
     pub fn new(inner: W) -> StdSink<W>
         ensures writer { sink_writer result ≡ inner }
         ensures faults { sink_faults result ≡ 0 }

@@ -45,7 +45,8 @@ pub record IsLeastBreak (loc : ℕ → List ℕ) (d : Automaton) (k : Break) : T
 -- the two words of the least break of the table's language
 abbrev pub AreBreakWords : CompleteDfa → List ℕ → List ℕ → Type 0
 AreBreakWords dfa left right =
-    (k : Break) × IsLeastBreak (loc_of dfa.alphabet) (automaton_of dfa) k × (left ≡ left_word k) × (right ≡ right_word k)
+    (k : Break) × IsLeastBreak (loc_of dfa.alphabet) (automaton_of dfa) k
+    × (left ≡ left_word k) × (right ≡ right_word k)
 
 -- what a refusal says: these two words, or the want of memory
 abbrev pub IsCause : CompleteDfa → Open → Type 0

@@ -40,3 +40,5 @@ diamonds_keep_the_state loc processes d q u v al t diamonds l hu hv e =
 
 pub diamonds_close_the_language : DiamondsCloseTheLanguage
 diamonds_close_the_language loc processes d al t diamonds u v hu hv e = ap d.accepts (diamonds_keep_the_state loc processes d d.start u v al t diamonds t.starts hu hv e)
+
+pub ruleset diamond_laws = (diamonds_keep_the_state, diamonds_close_the_language)

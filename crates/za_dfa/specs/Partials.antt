@@ -1,5 +1,7 @@
 -- A partial table: what contracts see of a `Partial`, and the table that completes it.
-use Rattle.std.specs.Prelude.{◌≡◌, ℕ, ◌+◌, ◌*◌, ◌<◌, ◌≤◌, ◌++◌, ◌∷◌, ◌==◌, not, Bool, false, List, [], length, map, replicate, slice_index_or, slice_set, Option, Some, None, is_some, unwrap_or, if◌then◌else◌}
+use Rattle.std.specs.Prelude.{◌≡◌, ℕ, ◌+◌, ◌*◌, ◌<◌, ◌≤◌, ◌++◌, ◌∷◌, ◌==◌, not, Bool, false}
+use Rattle.std.specs.Prelude.{List, [], length, map, replicate, slice_index_or, slice_set}
+use Rattle.std.specs.Prelude.{Option, Some, None, is_some, unwrap_or, if◌then◌else◌}
 use Rattle.std.specs.List.{list_all}
 use Rattle.za_alpha.specs.Alphabet.{DistributedAlphabet, IsDistributed}
 use Rattle.za_dfa.specs.Limits.{most_states}

@@ -1,5 +1,6 @@
 -- A DFA as a table: what contracts see of a `Dfa`.
-use Rattle.std.specs.Prelude.{◌≡◌, ℕ, ◌+◌, ◌*◌, ◌<◌, ◌≤◌, ◌&&◌, nat_lt, Bool, false, List, All, length, slice_index, slice_index_or, if◌then◌else◌}
+use Rattle.std.specs.Prelude.{◌≡◌, ℕ, ◌+◌, ◌*◌, ◌<◌, ◌≤◌, ◌&&◌, nat_lt, Bool, false, List}
+use Rattle.std.specs.Prelude.{All, length, slice_index, slice_index_or, if◌then◌else◌}
 use Rattle.za_alpha.specs.Alphabet.{DistributedAlphabet, IsDistributed}
 use Rattle.za_dfa.specs.declared.dfa.Dfa.TheInside.{Inside}
 use Rattle.za_dfa.specs.Limits.{most_states}

@@ -66,8 +66,8 @@ impl Dfa {
 
     /// The table with these entries: entry `q` of `accepting` says whether state `q` accepts, and
     /// entry `q * m + a` of `targets` is where letter `a` of `m` letters leads from state `q`. There is
-    /// a state for each entry of `accepting`, 1 to 129, and each target is one. It takes no memory, and
-    /// `is_table` is the test of what it requires.
+    /// a state for each entry of `accepting`, 1 to 129, and each target is one. `is_table` is the test
+    /// of what it requires.
     pub fn of_table(alphabet: Alphabet, start: u8, accepting: Vec<bool>, targets: Vec<u8>) -> Dfa
         requires { IsComplete (table_with alphabet start accepting.items targets.items) }
         ensures { result ≡ table_with alphabet start accepting.items targets.items }

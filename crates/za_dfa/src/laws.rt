@@ -5,7 +5,7 @@ ghost use Rattle.za_dfa.specs.Laws.{DiamondsKeepTheState, DiamondsCloseTheLangua
 /// Over a total automaton in which two independent letters lead from each state to one state in
 /// either order, equivalent words lead to the same state, and so the language is closed under trace
 /// equivalence (Zielonka 1987).
-#[tactic(auto, using(crate::proofs::Diamonds::diamonds_keep_the_state, crate::proofs::Diamonds::diamonds_close_the_language))]
+#[tactic(auto, using(crate::proofs::Diamonds::diamond_laws))]
 pub fn diamonds_close_the_language()
     ensures same_state { DiamondsKeepTheState }
     ensures closed { DiamondsCloseTheLanguage }

@@ -1,7 +1,9 @@
-ghost use Rattle.std.specs.Prelude.{◌≡◌, ◌<◌, ◌≤◌, ℕ, Option, true, false, length, map, slice_set, is_some, unwrap_or, IfOk, IfSome, MatchResult, Some};
+ghost use Rattle.std.specs.Prelude.{◌≡◌, ◌<◌, ◌≤◌, ℕ, Option, true, false, length, map, slice_set};
+ghost use Rattle.std.specs.Prelude.{is_some, unwrap_or, IfOk, IfSome, MatchResult, Some};
 ghost use Rattle.std.specs.List.{list_all};
 ghost use Rattle.za_dfa.specs.Limits.{most_states};
-ghost use Rattle.za_dfa.specs.Partials.{PartialDfa, blank, completion, entered, is_accepting, is_other, target_of, whole_of, IsPartial};
+ghost use Rattle.za_dfa.specs.Partials.{PartialDfa, blank, completion, entered, is_accepting};
+ghost use Rattle.za_dfa.specs.Partials.{is_other, target_of, whole_of, IsPartial};
 ghost use Rattle.za_dfa.specs.Private.Views.{table_with_cells, without_targets};
 
 use crate::dfa::Dfa;

@@ -84,7 +84,7 @@ impl Gossip {
         self.tertiary.as_slice()
     }
 
-    /// Takes over the numbers of another process, for as many processes. It takes no memory.
+    /// Takes over the numbers of another process, for as many processes.
     pub fn copy_from(&mut self, other: &Gossip)
         requires { length self.old.primary ≡ length other.now.primary }
         ensures { self.new ≡ other.now }

@@ -8,9 +8,8 @@ use crate::gossip::Gossip;
 use za_alpha::{Alphabet, Letter};
 
 /// Who of the participants of `a` has the latest news of `r`: the index in `inputs` of the least one
-/// that knows the latest event of `r` that each of them knows. `inputs` has what each participant
-/// keeps after some word, in rising order of processes. Numbers are only tested for equality
-/// (Mukund and Sohoni 1997). It takes no memory.
+/// that knows the latest event of `r` that each of them knows (Mukund and Sohoni 1997). `inputs` has
+/// what each participant keeps after some word, in rising order of processes.
 pub fn newest(alphabet: &Alphabet, a: Letter, inputs: &[Gossip], r: usize) -> usize
     requires letter { a.0 < length alphabet.now.letters }
     requires process { r < alphabet.now.processes }

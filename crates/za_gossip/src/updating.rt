@@ -1,6 +1,7 @@
 ghost use Rattle.std.specs.Prelude.{◌≡◌, ℕ, ◌+◌, ◌*◌, ◌<◌, ◌≤◌, All, List, [], ◌∷◌, ◌++◌, Some, None, IsTrue};
-ghost use Rattle.std.specs.Prelude.{length, map, slice_index, slice_index_or};
+ghost use Rattle.std.specs.Prelude.{length, map, replicate, slice_index, slice_index_or};
 ghost use Rattle.std.specs.List.{range_with_len};
+ghost use Rattle.za_alpha.specs.Limits.{most_processes};
 ghost use Rattle.za_alpha.specs.Words.{has};
 ghost use Rattle.za_alpha.specs.Alphabet.{loc_of};
 ghost use Rattle.za_order.specs.Labels.{label};
@@ -14,12 +15,10 @@ use crate::news::newest;
 use za_alpha::{Alphabet, Letter, MOST_PROCESSES};
 use za_ids::{EventId, id_of, least_free};
 
-/// What the participants of `a` keep after their event: writes it into `into`, and answers the label
-/// of the event. `inputs` has what each participant keeps after some word, in rising order of
-/// processes, and `into` is for as many processes; what it held before doesn't matter. All
-/// participants get the same numbers, and all other processes keep theirs. Numbers are only tested
-/// for equality (Mukund and Sohoni 1997). It takes no memory, and time in the order of the number of
-/// tertiary entries.
+/// Writes into `into` what the participants of `a` keep after an event of `a`, which is the same for
+/// each of them, and answers the label of the event (Mukund and Sohoni 1997). `inputs` has what each
+/// participant keeps after some word, in rising order of processes. `into` is for as many processes;
+/// what it held before doesn't matter.
 pub fn advance(alphabet: &Alphabet, a: Letter, inputs: &[Gossip], into: &mut Gossip) -> u16
     requires letter { a.0 < length alphabet.now.letters }
     requires rows { (w : List ℕ) × AreRowsAfter alphabet.now w (loc_of alphabet.now a.0) inputs.now }
@@ -33,7 +32,8 @@ pub fn advance(alphabet: &Alphabet, a: Letter, inputs: &[Gossip], into: &mut Gos
     let n = alphabet.processes();
     let label = least_free(n, a, inputs[0].entries(Level::Tertiary));
     let event = [id_of(n, a, label)];
-    let sources = sources(alphabet, a, inputs);
+    let mut sources = [None; MOST_PROCESSES];
+    set_sources(alphabet, a, inputs, &mut sources);
     write_row(
         Level::Primary,
         n,
@@ -63,23 +63,27 @@ pub fn advance(alphabet: &Alphabet, a: Letter, inputs: &[Gossip], into: &mut Gos
 
 /// For each process, where the entries for it come from after the event of the participants of `a`:
 /// none for a participant, whose latest event this is, and else the index of the input that has the
-/// latest news of it.
-fn sources(alphabet: &Alphabet, a: Letter, inputs: &[Gossip]) -> [Option<usize>; MOST_PROCESSES]
+/// latest news of it. None is there before.
+fn set_sources(
+    alphabet: &Alphabet,
+    a: Letter,
+    inputs: &[Gossip],
+    sources: &mut [Option<usize>; MOST_PROCESSES],
+)
     requires letter { a.0 < length alphabet.now.letters }
     requires rows { (w : List ℕ) × AreRowsAfter alphabet.now w (loc_of alphabet.now a.0) inputs.now }
-    ensures room { alphabet.now.processes ≤ length result }
-    ensures within { (q b : ℕ) → slice_index_or result q None ≡ Some b → b < length inputs.now }
+    requires none { sources.old ≡ replicate most_processes None }
+    ensures room { alphabet.now.processes ≤ length sources.new }
+    ensures within { (q b : ℕ) → slice_index_or sources.new q None ≡ Some b → b < length inputs.now }
     ensures sources { (w : List ℕ) → AreRowsAfter alphabet.now w (loc_of alphabet.now a.0) inputs.now →
-        (q : ℕ) → q < alphabet.now.processes → IsSource alphabet.now w a.0 q (slice_index_or result q None) }
+        (q : ℕ) → q < alphabet.now.processes → IsSource alphabet.now w a.0 q (slice_index_or sources.new q None) }
 {
     let participants = alphabet.loc(a);
-    let mut sources = [None; MOST_PROCESSES];
     for q in 0..alphabet.processes() {
         if !participants.has(q) {
             sources[q] = Some(newest(alphabet, a, inputs, q));
         }
     }
-    sources
 }
 
 /// The block from `from` on of a row after the event: `own` where the source is none, and else what
@@ -103,8 +107,18 @@ fn block_after<'a>(
     }
 }
 
-/// Writes a row after the event, block by block: the row has a block for each process, as long as
-/// `own`, which is the block of each participant.
+/// Whether the entries come from the first input.
+fn is_first(source: Option<usize>) -> bool
+    ensures { IsTrue result → source ≡ Some 0 }
+{
+    match source {
+        Some(best) => best == 0,
+        None => false,
+    }
+}
+
+/// Writes a row after the event: the row has a block for each process, as long as `own`, which is the
+/// block of each participant. Blocks of the first input are copied at once, as most come from it.
 fn write_row(
     level: Level,
     processes: usize,
@@ -113,6 +127,7 @@ fn write_row(
     own: &[EventId],
     into: &mut [EventId],
 )
+    requires some { 0 < length inputs.now }
     requires blocks { length into.old ≡ processes * length own.now }
     requires sources { processes ≤ length sources.now }
     requires within { (q b : ℕ) → slice_index_or sources.now q None ≡ Some b → b < length inputs.now }
@@ -121,10 +136,13 @@ fn write_row(
         event_numbers into.new
         ≡ map (joined_entry (event_numbers own.now) sources.now rows) (range_with_len 0 (length into.old)) }
 {
+    into.copy_from_slice(&inputs[0].entries(level)[..into.len()]);
     let width = own.len();
     for q in 0..processes {
-        let from = q * width;
-        let block = block_after(level, sources[q], inputs, own, from);
-        into[from..from + width].copy_from_slice(block);
+        if !is_first(sources[q]) {
+            let from = q * width;
+            let block = block_after(level, sources[q], inputs, own, from);
+            into[from..from + width].copy_from_slice(block);
+        }
     }
 }

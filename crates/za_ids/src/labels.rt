@@ -1,9 +1,11 @@
-ghost use Rattle.std.specs.Prelude.{◌≡◌, ℕ, ◌+◌, ◌^◌, ◌<◌, ◌≤◌, ◌↔◌, length, slice_index_or, Some, false, not};
+ghost use Rattle.std.specs.Prelude.{◌≡◌, ℕ, ◌+◌, ◌^◌, ◌<◌, ◌≤◌, ◌↔◌, length, replicate, slice_index_or, Some};
+ghost use Rattle.std.specs.Prelude.{false, not};
 ghost use Rattle.std.specs.Prelude.{IsTrue, IsFalse, IfSome};
 ghost use Rattle.za_alpha.specs.Limits.{most_processes, most_letters};
 ghost use Rattle.za_alpha.specs.Words.{has};
 ghost use Rattle.za_alpha.specs.Search.{least};
 ghost use Rattle.za_order.specs.Labels.{number_of};
+ghost use Rattle.za_ids.specs.Limits.{most_labels};
 ghost use Rattle.za_ids.specs.Numbers.{event_numbers};
 
 use crate::ids::{EventId, id_of, label_count};
@@ -14,7 +16,7 @@ pub const MOST_LABELS: usize = MOST_PROCESSES * MOST_PROCESSES * MOST_PROCESSES 
 
 /// The least label, at most the cube of `n`, whose number with the letter isn't in `ids`. There are
 /// `n` processes, 1 to 10, the letter is below 128, and there are at most as many numbers as the
-/// cube of `n`. Each number is looked at once.
+/// cube of `n`.
 pub fn least_free(n: usize, a: Letter, ids: &[EventId]) -> u16
     requires some_process { 1 ≤ n }
     requires few_processes { n ≤ most_processes }
@@ -24,20 +26,21 @@ pub fn least_free(n: usize, a: Letter, ids: &[EventId]) -> u16
     ensures free { IsFalse (has (event_numbers ids.now) (number_of n a.0 result)) }
     ensures least { (k : ℕ) → k < result → IsTrue (has (event_numbers ids.now) (number_of n a.0 k)) }
 {
-    let taken = taken_labels(n, a, ids);
+    let mut taken = [false; MOST_LABELS];
+    mark_labels(n, a, ids, &mut taken);
     first_unmarked(taken.as_slice()) as u16
 }
 
-/// For each label at most the cube of `n`, whether its number with the letter is in `ids`.
-fn taken_labels(n: usize, a: Letter, ids: &[EventId]) -> [bool; MOST_LABELS]
+/// Marks each label at most the cube of `n` whose number with the letter is in `ids`; none is marked before.
+fn mark_labels(n: usize, a: Letter, ids: &[EventId], taken: &mut [bool; MOST_LABELS])
     requires some_process { 1 ≤ n }
     requires few_processes { n ≤ most_processes }
     requires letter { a.0 < most_letters }
-    ensures room { n ^ 3 < length result }
+    requires none { taken.old ≡ replicate most_labels false }
+    ensures room { n ^ 3 < length taken.new }
     ensures marks { (k : ℕ) → k ≤ n ^ 3 →
-        slice_index_or result k false ≡ has (event_numbers ids.now) (number_of n a.0 k) }
+        slice_index_or taken.new k false ≡ has (event_numbers ids.now) (number_of n a.0 k) }
 {
-    let mut taken = [false; MOST_LABELS];
     let first = id_of(n, a, 0);
     let labels = label_count(n);
     for id in ids {
@@ -45,15 +48,16 @@ fn taken_labels(n: usize, a: Letter, ids: &[EventId]) -> [bool; MOST_LABELS]
             taken[label] = true;
         }
     }
-    taken
 }
 
 /// The place of a number among `count` numbers from the first on, if it is one of them.
 fn place_from(first: EventId, count: u32, id: EventId) -> Option<usize>
+    requires { first.0 + count ≤ 4294967296 }
     ensures within { IfSome result (λ k. k < count) }
     ensures value { (k : ℕ) → k < count → (result ≡ Some k) ↔ (id.0 ≡ first.0 + k) }
 {
-    let place = id.0.checked_sub(first.0)?;
+    // A number below the first wraps to one that is too great, so that one test is enough.
+    let place = id.0.wrapping_sub(first.0);
     if place < count {
         Some(place as usize)
     } else {
@@ -62,6 +66,8 @@ fn place_from(first: EventId, count: u32, id: EventId) -> Option<usize>
 }
 
 /// The place of the first mark that is not set, and the number of marks where all are.
+// Inlined over an array of known length it is made of vectors, which cost more where the place is small.
+#[inline(never)]
 pub fn first_unmarked(marks: &[bool]) -> usize
     ensures within { result ≤ length marks.now }
     ensures value { result ≡ least (λ k. not (slice_index_or marks.now k false)) (length marks.now) }

@@ -33,7 +33,7 @@ use Rattle.za_lang.specs.declared.order.Head.TheVariants as head
 use Rattle.za_lang.specs.declared.order.Place.{Place}
 use Rattle.za_lang.specs.declared.order.Place.TheVariants.{AtHeader, AtProcesses, AtFirstLetter, AtLetters, AtStart, AtAccept, AtRows, AtScripts, AfterEnd}
 use Rattle.za_lang.specs.Jobs.{IsJob}
-use Rattle.za_lang.specs.Limits.{most_processes, most_letters, most_states}
+use Rattle.za_lang.specs.Limits.{document_processes, document_letters, document_states}
 use Rattle.za_lang.specs.Order.{head_of, next_place, order_fault}
 use Rattle.za_lang.specs.Tests.{processes_fault, processes_line_fault, process_fault, loc_fault, some_loc_fault, kind_of_name, letter_line_fault, states_fault, states_line_fault, state_fault, start_line_fault, named_fault, new_row_fault, row_line_fault, step_fault, steps_fault, script_fault, script_line_fault}
 use Rattle.za_lang.specs.Documents.{Said, Step, said, words_in, first_number, start_said, rows_said, row_of, steps_said, steps_of, named_step, letter_of, script_of_steps, scripts_said, job_said, own_fault, words_fault, line_fault, next_fault, end_fault, faults_from}
@@ -69,7 +69,7 @@ record IsWhole (s : Said) : Type 0 where
   distributed : IsDistributed (alphabet_said s)
   few : AreFew (alphabet_said s)
   some_state : 1 ≤ s.states
-  few_states : s.states ≤ most_states
+  few_states : s.states ≤ document_states
   starts : s.start < s.states
   targets : (q a t : ℕ) → target_in s.rows q a ≡ Some t → t < s.states
   own : AreOwn (alphabet_said s) s.steps
@@ -100,20 +100,20 @@ none_of_map f (Some x) h = absurd (let e : is_some (option_map f (Some x)) ≡ f
 bounds : (n limit : ℕ) → (nat_le 1 n && nat_le n limit) ≡ true → (1 ≤ n) × (n ≤ limit)
 bounds n limit h = (grind (arith, nat_tests), grind (arith, nat_tests))
 
-count_right : (o : Option ℕ) → processes_fault o ≡ None → (n : ℕ) × (o ≡ Some n) × (1 ≤ n) × (n ≤ most_processes)
+count_right : (o : Option ℕ) → processes_fault o ≡ None → (n : ℕ) × (o ≡ Some n) × (1 ≤ n) × (n ≤ document_processes)
 count_right None h = absurd (cc)
-count_right (Some n) h = let b = bounds n most_processes (true_of_cond (nat_le 1 n && nat_le n most_processes) _ h) in (n, refl, b.0, b.1)
+count_right (Some n) h = let b = bounds n document_processes (true_of_cond (nat_le 1 n && nat_le n document_processes) _ h) in (n, refl, b.0, b.1)
 
-processes_right : (words : List (List ℕ)) → processes_line_fault words ≡ None → (n : ℕ) × (first_number words ≡ Some n) × (1 ≤ n) × (n ≤ most_processes)
+processes_right : (words : List (List ℕ)) → processes_line_fault words ≡ None → (n : ℕ) × (first_number words ≡ Some n) × (1 ≤ n) × (n ≤ document_processes)
 processes_right [] h = absurd (cc)
 processes_right (word ∷ []) h = count_right (numeral_value word) h
 processes_right (word ∷ x ∷ words) h = absurd (cc)
 
-states_count : (o : Option ℕ) → states_fault o ≡ None → (n : ℕ) × (o ≡ Some n) × (1 ≤ n) × (n ≤ most_states)
+states_count : (o : Option ℕ) → states_fault o ≡ None → (n : ℕ) × (o ≡ Some n) × (1 ≤ n) × (n ≤ document_states)
 states_count None h = absurd (cc)
-states_count (Some n) h = let b = bounds n most_states (true_of_cond (nat_le 1 n && nat_le n most_states) _ h) in (n, refl, b.0, b.1)
+states_count (Some n) h = let b = bounds n document_states (true_of_cond (nat_le 1 n && nat_le n document_states) _ h) in (n, refl, b.0, b.1)
 
-states_right : (words : List (List ℕ)) → states_line_fault words ≡ None → (n : ℕ) × (first_number words ≡ Some n) × (1 ≤ n) × (n ≤ most_states)
+states_right : (words : List (List ℕ)) → states_line_fault words ≡ None → (n : ℕ) × (first_number words ≡ Some n) × (1 ≤ n) × (n ≤ document_states)
 states_right [] h = absurd (cc)
 states_right (word ∷ []) h = states_count (numeral_value word) h
 states_right (word ∷ x ∷ words) h = absurd (cc)
@@ -167,7 +167,7 @@ still_bare s h words start rows steps bare =
       steps = ap (λ xs. s.steps ++ xs) steps ∙ append-nil s.steps ∙ bare.steps;
     }
 
-no_letters : (n : ℕ) → 1 ≤ n → n ≤ most_processes → IsBegun (record { processes = n; letters = [] })
+no_letters : (n : ℕ) → 1 ≤ n → n ≤ document_processes → IsBegun (record { processes = n; letters = [] })
 no_letters n some few =
     record {
       some_process = omega arith;
@@ -198,13 +198,13 @@ after_letter s [] w h = absurd (cc)
 after_letter s (name ∷ words) w h =
     let ps : List ℕ = filter_map numeral_value words in
     let l : NamedLetter = letter_of name words in
-    let room = none_of_cond (nat_le most_letters (length s.letters)) _ _ w in
+    let room = none_of_cond (nat_le document_letters (length s.letters)) _ _ w in
     let full = room.0 in
     let parts = none_of_or (option_map kind_of_name (name_fault s.letters name)) (some_loc_fault s.processes words) room.1 in
     let procs = procs_right s.processes words parts.1 in
     let limit = h.few.processes in
     let low : (p : ℕ) → has ps p ≡ true → p < 16 = λ p t. let b = procs.below p t in omega arith in
-    let fits : length s.letters < most_letters = grind (arith, nat_tests) in
+    let fits : length s.letters < document_letters = grind (arith, nat_tests) in
     let next : IsNextLetter (alphabet_said s) l = record {
       named = none_of_map kind_of_name (name_fault s.letters name) parts.0;
       room = omega arith;

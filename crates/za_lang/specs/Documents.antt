@@ -1,5 +1,6 @@
 -- Documents: what their lines say, the first wrong line, and the job that is gathered from the lines.
-use Rattle.std.specs.Prelude.{ℕ, ◌+◌, ◌==◌, ◌++◌, not, Bool, List, [], ◌∷◌, length, map, filter, Option, Some, None, if◌then◌else◌, fold, unwrap_or}
+use Rattle.std.specs.Prelude.{ℕ, ◌+◌, ◌==◌, ◌++◌, not, Bool, List, [], ◌∷◌, length, map}
+use Rattle.std.specs.Prelude.{filter, Option, Some, None, if◌then◌else◌, fold, unwrap_or}
 use Rattle.std.specs.List.{list_all, flat_map, filter_map, range_with_len}
 use Rattle.std.specs.Option.{option_or, option_map}
 use Rattle.za_text.specs.Lines.{RawLine, lines_of, is_allowed}
@@ -15,12 +16,14 @@ use Rattle.za_dfa.specs.declared.rows.Row as declared_row
 use Rattle.za_dfa.specs.Partials.{PartialDfa}
 use Rattle.za_dfa.specs.Rows.{cells_of}
 use Rattle.za_lang.specs.declared.order.Head.{Head}
-use Rattle.za_lang.specs.declared.order.Head.TheVariants.{Zla, Processes, Letter, States, Start, Accept, Row, Script, End, Other}
+use Rattle.za_lang.specs.declared.order.Head.TheVariants.{Zla, Processes, Letter, States, Start}
+use Rattle.za_lang.specs.declared.order.Head.TheVariants.{Accept, Row, Script, End, Other}
 use Rattle.za_lang.specs.declared.order.Place.{Place}
 use Rattle.za_lang.specs.declared.order.Place.TheVariants.{AtHeader, AfterEnd}
 use Rattle.za_lang.specs.Jobs.{JobData}
 use Rattle.za_lang.specs.Order.{head_of, next_place, order_fault}
-use Rattle.za_lang.specs.Tests.{header_line_fault, processes_line_fault, letter_line_fault, states_line_fault, start_line_fault, accept_line_fault, row_line_fault, script_line_fault, end_line_fault}
+use Rattle.za_lang.specs.Tests.{header_line_fault, processes_line_fault, letter_line_fault, states_line_fault}
+use Rattle.za_lang.specs.Tests.{start_line_fault, accept_line_fault, row_line_fault, script_line_fault, end_line_fault}
 
 abbrev pub words_in : RawLine → List (List ℕ)
 words_in line = words_of line.text

@@ -4,9 +4,11 @@ use Rattle.std.specs.Str.{bytes_eq}
 use Rattle.za_text.specs.declared.kind.Kind.{Kind}
 use Rattle.za_text.specs.declared.kind.Kind.TheVariants.{Header, OutOfOrder, Trailing}
 use Rattle.za_lang.specs.declared.order.Head.{Head}
-use Rattle.za_lang.specs.declared.order.Head.TheVariants.{Zla, Processes, Letter, States, Start, Accept, Row, Script, End, Other}
+use Rattle.za_lang.specs.declared.order.Head.TheVariants.{Zla, Processes, Letter, States, Start}
+use Rattle.za_lang.specs.declared.order.Head.TheVariants.{Accept, Row, Script, End, Other}
 use Rattle.za_lang.specs.declared.order.Place.{Place}
-use Rattle.za_lang.specs.declared.order.Place.TheVariants.{AtHeader, AtProcesses, AtFirstLetter, AtLetters, AtStart, AtAccept, AtRows, AtScripts, AfterEnd}
+use Rattle.za_lang.specs.declared.order.Place.TheVariants.{AtHeader, AtProcesses, AtFirstLetter, AtLetters}
+use Rattle.za_lang.specs.declared.order.Place.TheVariants.{AtStart, AtAccept, AtRows, AtScripts, AfterEnd}
 
 -- what a first word says
 abbrev pub head_of : List ℕ → Head

@@ -1,11 +1,15 @@
 -- The own tests of the lines of a document, each by the words after the line's first: its fault, where a
 -- test fails, and then that of the first that does.
-use Rattle.std.specs.Prelude.{ℕ, ◌+◌, ◌&&◌, not, nat_le, nat_lt, List, [], ◌∷◌, length, codes, Option, Some, None, if◌then◌else◌}
+use Rattle.std.specs.Prelude.{ℕ, ◌+◌, ◌&&◌, not, nat_le, nat_lt, List, [], ◌∷◌}
+use Rattle.std.specs.Prelude.{length, codes, Option, Some, None, if◌then◌else◌}
 use Rattle.std.specs.Option.{option_or, option_map}
 use Rattle.std.specs.Str.{bytes_eq}
 use Rattle.za_text.specs.Numbers.{numeral_value}
 use Rattle.za_text.specs.declared.kind.Kind.{Kind}
-use Rattle.za_text.specs.declared.kind.Kind.TheVariants.{Header, WordCount, BadNumber, BadName, ProcessCount, LetterCount, RepeatedName, EmptyLoc, NoSuchProcess, StateCount, NoSuchState, TwoTargets, NoSuchLetter, NotOfProcess, ScriptsFull}
+use Rattle.za_text.specs.declared.kind.Kind.TheVariants.{Header, WordCount, BadNumber, BadName}
+use Rattle.za_text.specs.declared.kind.Kind.TheVariants.{ProcessCount, LetterCount, RepeatedName, EmptyLoc}
+use Rattle.za_text.specs.declared.kind.Kind.TheVariants.{NoSuchProcess, StateCount, NoSuchState, TwoTargets}
+use Rattle.za_text.specs.declared.kind.Kind.TheVariants.{NoSuchLetter, NotOfProcess, ScriptsFull}
 use Rattle.za_alpha.specs.declared.fault.NameFault.{NameFault}
 use Rattle.za_alpha.specs.declared.fault.NameFault.TheVariants.{Bad, Repeated}
 use Rattle.za_alpha.specs.Words.{has}
@@ -15,7 +19,7 @@ use Rattle.za_alpha.specs.NewNames.{name_fault}
 use Rattle.za_dfa.specs.declared.rows.Row.{Row}
 use Rattle.za_dfa.specs.Rows.{has_other}
 use Rattle.za_script.specs.Limits.{most_script_letters}
-use Rattle.za_lang.specs.Limits.{most_processes, most_letters, most_states}
+use Rattle.za_lang.specs.Limits.{document_processes, document_letters, document_states}
 
 abbrev pub header_line_fault : List (List ℕ) → Option Kind
 header_line_fault (word ∷ []) = if bytes_eq word (codes "1") then None else Some Header
@@ -23,7 +27,7 @@ header_line_fault _ = Some Header
 
 abbrev pub processes_fault : Option ℕ → Option Kind
 processes_fault None = Some BadNumber
-processes_fault (Some n) = if nat_le 1 n && nat_le n most_processes then None else Some ProcessCount
+processes_fault (Some n) = if nat_le 1 n && nat_le n document_processes then None else Some ProcessCount
 
 abbrev pub processes_line_fault : List (List ℕ) → Option Kind
 processes_line_fault (word ∷ []) = processes_fault (numeral_value word)
@@ -52,7 +56,7 @@ kind_of_name Repeated = RepeatedName
 -- a letter after the letters before it
 abbrev pub new_letter_fault : ℕ → List NamedLetter → List ℕ → List (List ℕ) → Option Kind
 new_letter_fault processes letters name words =
-    if nat_le most_letters (length letters) then Some LetterCount
+    if nat_le document_letters (length letters) then Some LetterCount
     else option_or (option_map kind_of_name (name_fault letters name)) (some_loc_fault processes words)
 
 abbrev pub letter_line_fault : ℕ → List NamedLetter → List (List ℕ) → Option Kind
@@ -61,7 +65,7 @@ letter_line_fault processes letters (name ∷ words) = new_letter_fault processe
 
 abbrev pub states_fault : Option ℕ → Option Kind
 states_fault None = Some BadNumber
-states_fault (Some n) = if nat_le 1 n && nat_le n most_states then None else Some StateCount
+states_fault (Some n) = if nat_le 1 n && nat_le n document_states then None else Some StateCount
 
 abbrev pub states_line_fault : List (List ℕ) → Option Kind
 states_line_fault (word ∷ []) = states_fault (numeral_value word)

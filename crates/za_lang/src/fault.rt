@@ -10,19 +10,19 @@ use za_text::{Kind, TextFault};
 /// Why bytes are no job.
 #[derive(Clone, Copy, Debug, PartialEq, Eq)]
 pub enum JobFault {
-    /// The first wrong line, and the first of its tests that fails; or, where each line is right, that
-    /// the last `end` is missing, at one more than the number of lines.
+    /// The first wrong line, and the first of its tests that fails; or, where no line is wrong, that
+    /// `end` is missing, at one more than the number of lines.
     Text(TextFault),
-    /// Memory was refused.
+    /// Want of memory is the one free answer.
     OutOfMemory,
 }
 
-/// Why a line isn't taken. A call that reads lines answers it by `fault_at`.
+/// Why a line isn't taken.
 #[derive(Clone, Copy, Debug, PartialEq, Eq)]
 pub enum Refusal {
     /// The first of its tests that fails.
     Wrong(Kind),
-    /// Memory was refused.
+    /// Want of memory is the one free answer.
     OutOfMemory,
 }
 

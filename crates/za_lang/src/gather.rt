@@ -1,7 +1,8 @@
 //! What the lines from the start line on say is put into the job at once: its parts are the alphabet,
 //! the table and the scripts themselves.
 
-ghost use Rattle.std.specs.Prelude.{◌≡◌, ◌<◌, ◌∷◌, ◌++◌, [], List, None, Some, true, length, IfOk, MatchResult, OnOk, if◌then◌else◌};
+ghost use Rattle.std.specs.Prelude.{◌≡◌, ◌<◌, ◌∷◌, ◌++◌, [], List, None, Some, true};
+ghost use Rattle.std.specs.Prelude.{length, IfOk, MatchResult, OnOk, if◌then◌else◌};
 ghost use Rattle.std.specs.List.{filter_map};
 ghost use Rattle.std.specs.Option.{option_to_list};
 ghost use Rattle.za_text.specs.Numbers.{numeral_value};

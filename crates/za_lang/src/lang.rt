@@ -1,6 +1,7 @@
 ghost use Rattle.std.specs.Prelude.{◌≡◌, ◌<◌, ◌≤◌, length, slice_set, true, false, IfOk, IfSome, MatchResult};
-ghost use Rattle.za_dfa.specs.Partials.{blank, completion, entered, is_accepting, is_other, target_of, whole_of, IsPartial};
-ghost use Rattle.za_lang.specs.Limits.{most_letters, most_processes, most_states, FitsDocuments};
+ghost use Rattle.za_dfa.specs.Partials.{blank, completion, entered, is_accepting};
+ghost use Rattle.za_dfa.specs.Partials.{is_other, target_of, whole_of, IsPartial};
+ghost use Rattle.za_lang.specs.Limits.{document_letters, document_processes, document_states, FitsDocuments};
 
 use std::alloc::Global;
 use std::marker::Model;
@@ -29,9 +30,9 @@ impl Lang {
     /// The language of a DFA within the limits of documents: its alphabet, states, start state and
     /// accepting states, and all its rows.
     pub fn of(alloc: Global, dfa: &Dfa) -> Result<Lang, OutOfMemory>
-        requires processes { dfa.now.alphabet.processes ≤ most_processes }
-        requires letters { length dfa.now.alphabet.letters ≤ most_letters }
-        requires states { dfa.now.states ≤ most_states }
+        requires processes { dfa.now.alphabet.processes ≤ document_processes }
+        requires letters { length dfa.now.alphabet.letters ≤ document_letters }
+        requires states { dfa.now.states ≤ document_states }
         ensures { IfOk result (λ lang. lang ≡ whole_of dfa.now) }
     {
         let partial = Partial::of(alloc, dfa)?;
@@ -94,10 +95,10 @@ impl Lang {
         alphabet: Alphabet,
         states: usize,
     ) -> Result<Lang, OutOfMemory>
-        requires processes { alphabet.processes ≤ most_processes }
-        requires letters { length alphabet.letters ≤ most_letters }
+        requires processes { alphabet.processes ≤ document_processes }
+        requires letters { length alphabet.letters ≤ document_letters }
         requires some { 1 ≤ states }
-        requires few { states ≤ most_states }
+        requires few { states ≤ document_states }
         ensures value { IfOk result (λ lang. lang ≡ blank alphabet states) }
         ensures whole { IfOk result (λ lang. IsPartial lang) }
         ensures limits { IfOk result (λ lang. FitsDocuments lang) }

@@ -3,7 +3,7 @@
 ghost use Rattle.std.specs.Prelude.{◌≡◌, ◌<◌, ◌≤◌, ◌++◌, [], ℕ, IsTrue, None, length, IfOk, MatchResult, OnOk};
 ghost use Rattle.std.specs.List.{filter_map};
 ghost use Rattle.za_text.specs.Numbers.{numeral_value};
-ghost use Rattle.za_alpha.specs.Limits as alpha_limits;
+ghost use Rattle.za_alpha.specs.Limits.{most_processes};
 ghost use Rattle.za_alpha.specs.Words.{has};
 ghost use Rattle.za_alpha.specs.Procs.{members};
 ghost use Rattle.za_alpha.specs.Rows.{set_of};
@@ -19,7 +19,7 @@ ghost use Rattle.za_lang.specs.Private.Reading.{letters_place, letters_told, IsR
 use crate::fault::Refusal;
 use crate::job::Job;
 use crate::lang::Lang;
-use crate::limits::MOST_LETTERS;
+use crate::limits::DOCUMENT_LETTERS;
 use crate::line_tests::{process_of, states_said};
 use crate::order::{Head, Place};
 use crate::reading::Reading;
@@ -31,7 +31,7 @@ use za_text::Kind;
 
 /// The processes that the words name.
 fn procs_said(processes: usize, mut words: Words) -> Result<Procs, Kind>
-    requires { processes ≤ alpha_limits.most_processes }
+    requires { processes ≤ most_processes }
     ensures said { MatchResult result
         (λ procs. (some_loc_fault processes words.entry ≡ None)
         × (procs ≡ set_of (filter_map numeral_value words.entry)))
@@ -62,7 +62,7 @@ fn take_letter(letters: &mut Letters, alloc: Global, mut words: Words) -> Result
     let Some(name) = words.next() else {
         return Err(Refusal::Wrong(Kind::WordCount));
     };
-    if MOST_LETTERS <= letters.len() {
+    if DOCUMENT_LETTERS <= letters.len() {
         return Err(Refusal::Wrong(Kind::LetterCount));
     }
     if let Some(fault) = letters.name_fault(name) {

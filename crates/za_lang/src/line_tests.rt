@@ -1,10 +1,12 @@
 ghost use Rattle.std.specs.Prelude.{◌≡◌, ◌<◌, ◌≤◌, None, Some, MatchResult};
 ghost use Rattle.za_text.specs.Numbers.{numeral_value};
 ghost use Rattle.za_lang.specs.Documents.{first_number};
-ghost use Rattle.za_lang.specs.Limits.{most_processes, most_states};
-ghost use Rattle.za_lang.specs.Tests.{end_line_fault, header_line_fault, process_fault, processes_fault, processes_line_fault, start_line_fault, state_fault, states_fault, states_line_fault};
+ghost use Rattle.za_lang.specs.Limits.{document_processes, document_states};
+ghost use Rattle.za_lang.specs.Tests.{end_line_fault, header_line_fault, process_fault};
+ghost use Rattle.za_lang.specs.Tests.{processes_fault, processes_line_fault, start_line_fault};
+ghost use Rattle.za_lang.specs.Tests.{state_fault, states_fault, states_line_fault};
 
-use crate::limits::{MOST_PROCESSES, MOST_STATES};
+use crate::limits::{DOCUMENT_PROCESSES, DOCUMENT_STATES};
 use crate::words::Words;
 use za_text::{Kind, number};
 
@@ -39,13 +41,13 @@ pub(crate) fn end_line_fault(mut words: Words) -> Option<Kind>
 
 fn count_of_processes(count: Option<u32>) -> Result<u32, Kind>
     ensures { MatchResult result
-        (λ n. (processes_fault count ≡ None) × (count ≡ Some n) × (1 ≤ n) × (n ≤ most_processes))
+        (λ n. (processes_fault count ≡ None) × (count ≡ Some n) × (1 ≤ n) × (n ≤ document_processes))
         (λ kind. processes_fault count ≡ Some kind) }
 {
     match count {
         None => Err(Kind::BadNumber),
         Some(n) => {
-            if 1 <= n && n <= MOST_PROCESSES as u32 {
+            if 1 <= n && n <= DOCUMENT_PROCESSES as u32 {
                 Ok(n)
             } else {
                 Err(Kind::ProcessCount)
@@ -58,7 +60,7 @@ fn count_of_processes(count: Option<u32>) -> Result<u32, Kind>
 pub(crate) fn processes_said(mut words: Words) -> Result<u32, Kind>
     ensures { MatchResult result
         (λ n. (processes_line_fault words.entry ≡ None)
-        × (first_number words.entry ≡ Some n) × (1 ≤ n) × (n ≤ most_processes))
+        × (first_number words.entry ≡ Some n) × (1 ≤ n) × (n ≤ document_processes))
         (λ kind. processes_line_fault words.entry ≡ Some kind) }
 {
     match words.next() {
@@ -74,13 +76,13 @@ pub(crate) fn processes_said(mut words: Words) -> Result<u32, Kind>
 
 fn count_of_states(count: Option<u32>) -> Result<u32, Kind>
     ensures { MatchResult result
-        (λ n. (states_fault count ≡ None) × (count ≡ Some n) × (1 ≤ n) × (n ≤ most_states))
+        (λ n. (states_fault count ≡ None) × (count ≡ Some n) × (1 ≤ n) × (n ≤ document_states))
         (λ kind. states_fault count ≡ Some kind) }
 {
     match count {
         None => Err(Kind::BadNumber),
         Some(n) => {
-            if 1 <= n && n <= MOST_STATES as u32 {
+            if 1 <= n && n <= DOCUMENT_STATES as u32 {
                 Ok(n)
             } else {
                 Err(Kind::StateCount)
@@ -93,7 +95,7 @@ fn count_of_states(count: Option<u32>) -> Result<u32, Kind>
 pub(crate) fn states_said(mut words: Words) -> Result<u32, Kind>
     ensures { MatchResult result
         (λ n. (states_line_fault words.entry ≡ None)
-        × (first_number words.entry ≡ Some n) × (1 ≤ n) × (n ≤ most_states))
+        × (first_number words.entry ≡ Some n) × (1 ≤ n) × (n ≤ document_states))
         (λ kind. states_line_fault words.entry ≡ Some kind) }
 {
     match words.next() {
@@ -128,7 +130,7 @@ pub(crate) fn process_of(processes: usize, word: &[u8]) -> Result<usize, Kind>
 
 /// The state of this number.
 pub(crate) fn state_of(states: usize, word: &[u8]) -> Result<u8, Kind>
-    requires { states ≤ most_states }
+    requires { states ≤ document_states }
     ensures { MatchResult result
         (λ q. (state_fault states (numeral_value word.now) ≡ None) × (numeral_value word.now ≡ Some q) × (q < states))
         (λ kind. state_fault states (numeral_value word.now) ≡ Some kind) }
@@ -147,7 +149,7 @@ pub(crate) fn state_of(states: usize, word: &[u8]) -> Result<u8, Kind>
 
 /// The start state that a line says, by its words after the first.
 pub(crate) fn start_said(states: usize, mut words: Words) -> Result<u8, Kind>
-    requires { states ≤ most_states }
+    requires { states ≤ document_states }
     ensures { MatchResult result
         (λ q. (start_line_fault states words.entry ≡ None) × (first_number words.entry ≡ Some q) × (q < states))
         (λ kind. start_line_fault states words.entry ≡ Some kind) }

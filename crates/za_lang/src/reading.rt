@@ -116,10 +116,9 @@ impl Reading {
     }
 }
 
-/// Reads a document of fewer than 4,294,967,295 bytes by its grammar, in one pass over its lines. It
-/// is refused at the first line that is wrong, with the first of that line's tests that fails, or,
-/// where each line is right and the last `end` is missing, at one more than the number of lines.
-/// Want of memory is the one free answer. The bytes are kept by nothing that is answered.
+/// The job that a document of fewer than 4,294,967,295 bytes says. It is refused at the first line that
+/// is wrong, with the first of that line's tests that fails, or, where no line is wrong and `end` is
+/// missing, at one more than the number of lines. Want of memory is the one free answer.
 pub fn read_job(alloc: Global, bytes: &[u8]) -> Result<Job, JobFault>
     requires { length bytes.now < 4294967295 }
     ensures answer { MatchResult result

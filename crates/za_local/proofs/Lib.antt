@@ -2,6 +2,7 @@ pub mod Paired
 pub mod Shapes
 pub mod Blocks
 pub mod LocalLaws
+pub mod SharedEntries
 pub mod SharedNumbers
 pub mod Given
 pub mod Benches

@@ -1,11 +1,11 @@
 -- What rows of numbers tell of shared entries.
-use Rattle.std.proofs.Common.{◌≡◌, ℕ, zero, suc, ◌+◌, ◌<◌, ◌≤◌, Bool, true, false, not, ◌&&◌, ◌||◌, ◌==◌, inl, inr, List, [], ◌∷◌, ◌++◌, length, get_or}
-use Rattle.std.proofs.Common.{slice_index, take, map, flat_map, Option, Some, None, refl, sym, ap, subst, ◌∙◌, arith, eqb-true, eq-eqb, ne_eqb, take-suc}
+use Rattle.std.proofs.Common.{◌≡◌, ℕ, zero, suc, ◌<◌, ◌≤◌, Bool, true, false, not, ◌&&◌, ◌||◌, ◌==◌, inl, inr, List, [], ◌∷◌, length, get_or}
+use Rattle.std.proofs.Common.{slice_index, take, map, Option, None, refl, sym, ap, ◌∙◌, arith, take-suc}
 use Rattle.std.proofs.Common.{add-one}
 use Rattle.std.specs.Prelude.{nat_lt}
 use Rattle.std.specs.List.{range_with_len, list_any}
 use Rattle.std.specs.Option.{option_map_or}
-use Rattle.std.proofs.lemmas.Bool.{cases_lt, and_left, and_right, not_from_false}
+use Rattle.std.proofs.lemmas.Bool.{cases_lt, and_left}
 use Rattle.std.proofs.lemmas.Bool.Decides.{nat_tests}
 use Rattle.std.proofs.lemmas.List.{length-map, get_or-map}
 use Rattle.std.proofs.lemmas.List.Folds.{list_any-append}
@@ -13,19 +13,17 @@ use Rattle.std.proofs.lemmas.List.FromFn.{get_or-map-range_with_len, length-map-
 use Rattle.za_alpha.specs.Words.{has, IsWord}
 use Rattle.za_alpha.specs.Alphabet.{DistributedAlphabet, IsDistributed, loc_of}
 use Rattle.za_order.specs.Views.{participants}
-use Rattle.za_order.specs.Entries.{primary, last_in_past, secondary}
-use Rattle.za_order.specs.Labels.{number}
+use Rattle.za_order.specs.Entries.{primary, secondary}
 use Rattle.za_order.specs.Locals.{Ids, ids, is_event, earlier, best, under}
-use Rattle.za_order.proofs.Options.{option-cases, is_event-some, some-is_event}
-use Rattle.za_order.proofs.Sets.{same-test, has-map}
+use Rattle.za_order.proofs.Options.{option-cases}
 use Rattle.za_order.proofs.Ranges.{any-same, any-more, any-none, or-false}
 use Rattle.za_order.proofs.Participants.{word-over}
-use Rattle.za_order.proofs.Processes.{primary-secondary, primary-process}
-use Rattle.za_order.proofs.Numbers.{number-some, numbers_tell_apart}
+use Rattle.za_order.proofs.Processes.{primary-process}
 use Rattle.za_gossip.specs.Rows.{Rows, rows_after, block_at}
 use Rattle.za_residue.specs.Masks.{is_shared}
 use Rattle.za_local.specs.Private.Shared.{primary_row, is_shared_before}
 use Rattle.za_local.proofs.Blocks.{block-of-blocks}
+use Rattle.za_local.proofs.SharedEntries.{found-primary, found-secondary, no-number, shared}
 
 -- a search through the first elements of a list, by their places
 any-of-first : (test : ℕ → Bool) (xs : List ℕ) (i : ℕ) → i ≤ length xs → list_any (λ j. test (get_or xs j 0)) (range_with_len 0 i) ≡ list_any test (take i xs)
@@ -52,52 +50,32 @@ module _ (alphabet : DistributedAlphabet) (whole : IsDistributed alphabet) (w : 
   abbrev range : List ℕ
   range = range_with_len 0 n
 
-  -- the primary entries are secondary ones
-  as-secondary : (p q : ℕ) → secondary who (length w) p q q ≡ primary who (length w) p q
-  as-secondary p q = elim (option-cases (primary who (length w) p q)) [
-    | inl none ↦ ap (λ o. Rattle.std.proofs.Common.option_and_then (λ e. last_in_past who e q) o) none ∙ sym none
-    | inr one ↦ primary-secondary who (length w) p q one.0 one.1 ∙ sym one.1
+  -- nobody knows an event of a number that is no process
+  none-beyond : (x s : ℕ) → n ≤ s → primary who (length w) x s ≡ None
+  none-beyond x s ge = elim (option-cases (primary who (length w) x s)) [
+    | inl none ↦ none
+    | inr one ↦
+        let lt = primary-process loc (length alphabet.letters) n w (word-over loc (length alphabet.letters) n w whole.located word) (length w)
+        (omega arith) x s one.0 one.1 in
+        absurd (omega arith)
   ]
 
-  -- a primary entry of x is shared with a row of secondary entries exactly if it is an event, and one of them
-  shared-with : (x s : ℕ) (entries : ℕ → Option ℕ) → ((t : ℕ) → number loc n w (entries t) ≡ (known x).primary s → entries t ≡ primary who (length w) x s) →
-      is_shared (map (known x).primary range) (map (λ t. number loc n w (entries t)) range) s
-      ≡ option_map_or (λ e. list_any (λ t. is_event (entries t) e) range) (primary who (length w) x s) false
-  shared-with x s entries tells =
+  -- what a row shares with the primary row of x, by the number of its entry for s
+  in-row : (x s : ℕ) (other : List ℕ) →
+      is_shared (map (known x).primary range) other s ≡ (not ((known x).primary s == 0) && has other ((known x).primary s))
+  in-row x s other =
       let row : List ℕ = map (known x).primary range in
-      let other : List ℕ = map (λ t. number loc n w (entries t)) range in
-      let found = λ (o : Option ℕ). option_map_or (λ e. list_any (λ t. is_event (entries t) e) range) o false in
       let long = length-map-range_with_len (known x).primary 0 n in
-      elim (option-cases (primary who (length w) x s)) [
-        | inl none ↦
-            elim (cases_lt s n) [
-              | inl lt ↦
-                  let here : slice_index row s ≡ 0 = get_or-map-range_with_len (known x).primary 0 n s s 0 lt (omega arith) ∙ ap (number loc n w) none in
-                  and_left (nat_lt s (length row) && not (slice_index row s == 0)) (has other (slice_index row s))
-                  (and_right (nat_lt s (length row)) (not (slice_index row s == 0)) (ap not (eq-eqb (slice_index row s) 0 here)))
-              | inr ge ↦
-                  let out : nat_lt s (length row) ≡ false = grind (arith, nat_tests) in
-                  and_left (nat_lt s (length row) && not (slice_index row s == 0)) (has other (slice_index row s))
-                  (and_left (nat_lt s (length row)) (not (slice_index row s == 0)) out)
-            ]
-            ∙ sym (ap found none)
-        | inr one ↦
-            let e : ℕ = one.0 in
-            let lt = primary-process loc (length alphabet.letters) n w (word-over loc (length alphabet.letters) n w whole.located word) (length w)
-            (omega arith) x s e one.1 in
+      elim (cases_lt s n) [
+        | inl lt ↦
             let inside : nat_lt s (length row) ≡ true = grind (arith, nat_tests) in
             let here : slice_index row s ≡ (known x).primary s = get_or-map-range_with_len (known x).primary 0 n s s 0 lt (omega arith) in
-            let some : not (slice_index row s == 0) ≡ true =
-            not_from_false (slice_index row s == 0) (ne_eqb (slice_index row s) 0 (λ z. number-some loc n w e (sym (here ∙ ap (number loc n w) one.1) ∙ z))) in
-            ap (λ b. (b && not (slice_index row s == 0)) && has other (slice_index row s)) inside
-            ∙ ap (λ b. b && has other (slice_index row s)) some
-            ∙ ap (has other) here
-            ∙ has-map (λ t. number loc n w (entries t)) range ((known x).primary s)
-            ∙ any-same (λ t. number loc n w (entries t) == (known x).primary s) (λ t. is_event (entries t) e) n
-            (λ t k. same-test (number loc n w (entries t) == (known x).primary s) (is_event (entries t) e)
-            (λ h. some-is_event (entries t) e (tells t (eqb-true (number loc n w (entries t)) ((known x).primary s) h) ∙ one.1))
-            (λ h. eq-eqb (number loc n w (entries t)) ((known x).primary s) (ap (number loc n w) (is_event-some (entries t) e h ∙ sym one.1))))
-            ∙ sym (ap found one.1)
+            ap (λ b. (b && not (slice_index row s == 0)) && has other (slice_index row s)) inside ∙ ap (λ k. not (k == 0) && has other k) here
+        | inr ge ↦
+            let out : nat_lt s (length row) ≡ false = grind (arith, nat_tests) in
+            and_left (nat_lt s (length row) && not (slice_index row s == 0)) (has other (slice_index row s))
+            (and_left (nat_lt s (length row)) (not (slice_index row s == 0)) out)
+            ∙ sym (no-number loc (length alphabet.letters) n w whole.located word (primary who (length w) x s) (has other ((known x).primary s)) (none-beyond x s ge))
       ]
 
   -- with the primary row of y
@@ -105,22 +83,20 @@ module _ (alphabet : DistributedAlphabet) (whole : IsDistributed alphabet) (w : 
       is_shared (map (known x).primary range) (map (known y).primary range) s
       ≡ option_map_or (λ e. list_any (λ t. is_event (primary who (length w) y t) e) range) (primary who (length w) x s) false
   shared-primary x y s =
-      shared-with x s (λ t. primary who (length w) y t)
-      (λ t h. sym (as-secondary y t)
-      ∙ numbers_tell_apart loc (length alphabet.letters) n w (length w) y t t x s s whole.located word (omega arith) (ap (number loc n w) (as-secondary y t)
-      ∙ h ∙ sym (ap (number loc n w) (as-secondary x s)))
-      ∙ as-secondary x s)
+      in-row x s (map (known y).primary range)
+      ∙ shared loc (length alphabet.letters) n w whole.located word (primary who (length w) x s) (has (map (known y).primary range) ((known x).primary s))
+      (λ e. list_any (λ t. is_event (primary who (length w) y t) e) range)
+      (λ e is. found-primary loc (length alphabet.letters) n w whole.located word x y s e is)
 
   -- with the secondary row of b for r
   shared-secondary : (x b r s : ℕ) →
       is_shared (map (known x).primary range) (map ((known b).secondary r) range) s
       ≡ option_map_or (λ e. list_any (λ t. is_event (secondary who (length w) b r t) e) range) (primary who (length w) x s) false
   shared-secondary x b r s =
-      shared-with x s (λ t. secondary who (length w) b r t)
-      (λ t h.
-      numbers_tell_apart loc (length alphabet.letters) n w (length w) b r t x s s whole.located word (omega arith)
-      (h ∙ sym (ap (number loc n w) (as-secondary x s)))
-      ∙ as-secondary x s)
+      in-row x s (map ((known b).secondary r) range)
+      ∙ shared loc (length alphabet.letters) n w whole.located word (primary who (length w) x s) (has (map ((known b).secondary r) range) ((known x).primary s))
+      (λ e. list_any (λ t. is_event (secondary who (length w) b r t) e) range)
+      (λ e is. found-secondary loc (length alphabet.letters) n w whole.located word x b r s e is)
 
   module _ (xs : List ℕ) (inputs : List Rows) (given : inputs ≡ map (rows_after loc n w) xs) where
     -- the primary row of an input

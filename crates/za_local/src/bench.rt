@@ -61,7 +61,7 @@ impl Bench {
     }
 
     /// Puts a copy of a local state beside the others, of which there are fewer than processes. It is
-    /// for as many processes and states as the bench. It takes no memory.
+    /// for as many processes and states as the bench.
     pub fn add(&mut self, local: &Local)
         requires room { length self.old.locals < self.old.processes }
         requires shape { HasShape self.old.processes self.old.states local.now }
@@ -73,7 +73,7 @@ impl Bench {
     }
 
     /// Puts a local state beside the others, in exchange for one of its shape. There are fewer than
-    /// processes, and it is for as many processes and states as the bench. It takes no memory.
+    /// processes, and it is for as many processes and states as the bench.
     pub fn exchange(&mut self, local: &mut Local)
         requires room { length self.old.locals < self.old.processes }
         requires shape { HasShape self.old.processes self.old.states local.old }
@@ -86,7 +86,6 @@ impl Bench {
     }
 
     /// Whether the local state at place `i` is this one, which is for as many processes and states.
-    /// It takes no memory.
     pub fn has(&self, i: usize, local: &Local) -> bool
         requires place { i < length self.now.locals }
         requires shape { HasShape self.now.processes self.now.states local.now }

@@ -73,10 +73,9 @@ fn hand_out(closed: &Closed, a: Letter, fresh: &mut Local, locals: &mut [Local])
     swap(&mut locals[least], fresh);
 }
 
-/// Fires a letter: the local states of its participants alone give the one that each of them gets,
-/// and all other processes keep theirs. `locals` has the local states of all processes after some
-/// word, in order; `bench` and `fresh` are for as many processes and states, and what they held
-/// before doesn't matter. It answers the label of the event, and takes no memory.
+/// Fires a letter: `locals` has the local states of all processes after some word, in order, and gets
+/// those after the word and the letter. It answers the label of the event. `bench` and `fresh` are for
+/// as many processes and states, and so they stay; what they held before doesn't matter.
 pub fn fire_on(
     closed: &Closed,
     a: Letter,

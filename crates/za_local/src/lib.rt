@@ -1,5 +1,5 @@
-//! Local states of the distributed automaton of a closed DFA, and its transitions: what a letter's
-//! participants keep after their event is computed from what they kept before it, and nothing else.
+//! Local states of the distributed automaton of a closed DFA, and its transitions: from the local
+//! states of a letter's participants those that they have after an event of the letter.
 #![tactic(auto)]
 
 mod bench;

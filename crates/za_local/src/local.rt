@@ -78,7 +78,7 @@ impl PartialEq for Local {
 
     ghost laws = { partial_equiv_from_equiv same_local_equiv };
 
-    /// Whether two local states are the same in all numbers, shapes among them. It takes no memory.
+    /// Whether two local states are the same in all numbers, shapes among them.
     fn eq(&self, other: &Local) -> bool {
         is_shaped_as(self, other) && equal(self, other)
     }
@@ -92,7 +92,7 @@ fn is_shaped_as(a: &Local, b: &Local) -> bool
     a.residues.processes() == b.residues.processes() && a.residues.states() == b.residues.states()
 }
 
-/// Whether two local states are the same in all numbers. It takes no memory.
+/// Whether two local states are the same in all numbers. They are for as many processes and states.
 pub fn equal(a: &Local, b: &Local) -> bool
     requires { IsShapedAs a.now b.now }
     ensures { IsTrue result ↔ (a.now ≡ b.now) }

@@ -8,16 +8,15 @@ ghost use Rattle.za_local.specs.Locals.{local_after, AreLocalsAfter, AreAllLocal
 
 use crate::bench::Bench;
 use crate::local::Local;
-use crate::masks::masks_of;
+use crate::masks::{NO_MASKS, set_masks};
 use za_alpha::{Letter, Procs};
 use za_dfa::Closed;
 
-/// The local state of each participant of `a` after their event: writes it into `into`, and answers
-/// the label of the event. `bench` has the local states of the participants after some word, in
-/// rising order of processes, and `into` is for as many processes and states; what it held before
-/// doesn't matter. All participants get the same local state, and all other processes keep theirs, so
-/// this is the transition of the distributed automaton (Zielonka 1987). It takes no memory, and sees
-/// nothing but what the bench has.
+/// Writes into `into` the local state of the participants of `a` after an event of `a`, which is the
+/// same for each of them, and answers the label of the event: the transition of the distributed
+/// automaton (Zielonka 1987). `bench` has the local states of the participants after some word, in
+/// rising order of processes. `into` is for as many processes and states, and so it stays; what it held
+/// before doesn't matter.
 pub fn transit(closed: &Closed, a: Letter, bench: &Bench, into: &mut Local) -> u16
     requires letter { a.0 < length closed.now.alphabet.letters }
     requires locals { (w : List ℕ) × AreLocalsAfter closed.now w (loc_of closed.now.alphabet a.0) bench.now.locals }
@@ -30,23 +29,26 @@ pub fn transit(closed: &Closed, a: Letter, bench: &Bench, into: &mut Local) -> u
     ensures shape { HasShape closed.now.alphabet.processes closed.now.states into.new }
 {
     let alphabet = closed.dfa().alphabet();
-    let masks = masks_of(alphabet, Some(a), bench.gossips());
+    let mut masks = NO_MASKS;
+    set_masks(alphabet, Some(a), bench.gossips(), &mut masks);
     za_residue::advance(closed, a, bench.residues(), &masks, &mut into.residues);
     za_gossip::advance(alphabet, a, bench.gossips(), &mut into.gossip)
 }
 
-/// Where the word leads from the start, from the local states of all processes after it, which
-/// `bench` has in order. It takes no memory.
+/// Where a word leads from the start: `bench` has the local states of all processes after it, in rising
+/// order.
 pub fn verdict(closed: &Closed, bench: &Bench) -> u8
     requires { (w : List ℕ) × AreAllLocalsAfter closed.now w bench.now.locals }
     ensures { (w : List ℕ) → AreAllLocalsAfter closed.now w bench.now.locals →
         result ≡ walk (step_of closed.now) closed.now.start w }
 {
-    let masks = masks_of(closed.dfa().alphabet(), None, bench.gossips());
+    let mut masks = NO_MASKS;
+    set_masks(closed.dfa().alphabet(), None, bench.gossips(), &mut masks);
     za_residue::join_all(closed, bench.residues(), &masks)
 }
 
-/// Where the events lead from the start that the process knows. It takes no memory.
+/// Where the events that a process knows lead from the start: `local` is its local state after some
+/// word. It is a state of the automaton also where `local` is of no word.
 pub fn view_state(closed: &Closed, local: &Local) -> u8
     requires { HasShape closed.now.alphabet.processes closed.now.states local.now }
     ensures within { result < closed.now.states }

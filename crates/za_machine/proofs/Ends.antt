@@ -1,14 +1,10 @@
 -- The answer of states that are over, and what is left from any state on.
-use Rattle.std.proofs.Common.{◌≡◌, ℕ, zero, suc, ◌<◌, ◌↔◌, Bool, true, false, List, [], ◌∷◌, length, refl, sym, subst, ◌∙◌, arith}
-use Rattle.std.specs.Prelude.{if◌then◌else◌}
+use Rattle.std.proofs.Common.{◌≡◌, ℕ, zero, suc, ◌<◌, ◌↔◌, Bool, true, List, [], ◌∷◌, length, refl, sym, subst, arith}
 use Rattle.std.specs.List.{list_all}
 use Rattle.std.proofs.lemmas.Bool.{and_parts, and_from}
 use Rattle.za_alpha.specs.Words.{IsAlphabet}
-use Rattle.za_dfa.specs.Automata.{Automaton, is_accepted, IsTraceClosed}
 use Rattle.za_script.specs.Scripts.{total, Weaves, FitsMaximally}
-use Rattle.za_script.specs.Answer.{IsAnswer}
-use Rattle.za_script.specs.declared.answer.Answer.TheVariants.{Accept, Reject, Stuck}
-use Rattle.za_script.proofs.Confluence.{weave_decides, maximal_words_weave}
+use Rattle.za_script.proofs.Answers.{maximal_words_have_the_answer}
 use Rattle.za_script.proofs.GoingOn.{weaving_goes_on, rest_is_one_trace}
 use Rattle.za_machine.specs.Machine.{is_in}
 use Rattle.za_machine.specs.Laws.{OverHasTheAnswer, WeavingGoesOnFromStates, RestsWeaveTheSame}
@@ -24,30 +20,16 @@ marked-all : (bs : List Bool) → ((p : ℕ) → p < length bs → is_in bs p �
 marked-all [] h = refl
 marked-all (b ∷ bs) h = and_from b (list_all (λ e. e) bs) (h 0 (omega arith)) (marked-all bs (λ p l. h (suc p) (omega arith)))
 
-module _ (loc : ℕ → List ℕ) (d : Automaton) (scripts : ℕ → List ℕ) (w : List ℕ) (closed : IsTraceClosed loc d) where
-  answer-by : (whole accepted : Bool) → is_accepted d w ≡ accepted → (whole ≡ true → Weaves loc d.letters scripts w) → ((v : List ℕ) → Weaves loc d.letters scripts v → whole ≡ true) →
-      IsAnswer loc d scripts (if whole then (if accepted then Accept else Reject) else Stuck)
-  answer-by true true e up down = (w, up refl, e)
-  answer-by true false e up down =
-      let k = up refl in ((w, k), λ v kv. closed v w kv.word k.word (λ p. kv.whole p ∙ sym (k.whole p)) ∙ e)
-  answer-by false accepted e up down = λ v k. let z : false ≡ true = down v k in cc
-
-module _ (loc : ℕ → List ℕ) (processes : ℕ) (d : Automaton) (scripts : ℕ → List ℕ) (w : List ℕ) (ok : IsAlphabet loc d.letters processes) (closed : IsTraceClosed loc d) (full : FitsMaximally loc d.letters scripts w) where
-  answer-of : (whole : Bool) → (Weaves loc d.letters scripts w ↔ (whole ≡ true)) → IsAnswer loc d scripts (if whole then (if is_accepted d w then Accept else Reject) else Stuck)
-  answer-of whole h = answer-by loc d scripts w closed whole (is_accepted d w) refl h.1
-      (λ v k. h.0 (maximal_words_weave loc d.letters processes scripts w ok (weave_decides loc d.letters processes scripts v ok k) full))
-
 pub over_has_the_answer : OverHasTheAnswer
 over_has_the_answer m d c ok same closed r o =
     let s = reached-sound m c r in
     let n = reached_weaves m c ok r o in
-    answer-of m.loc m.processes d m.scripts c.journal
+    maximal_words_have_the_answer m.loc m.processes d m.scripts (record { word = c.journal; counts = []; whole = list_all (λ e. e) c.ended })
     (subst (λ l. IsAlphabet m.loc l m.processes) (sym same) ok.alphabet) closed
     (subst (λ l. FitsMaximally m.loc l m.scripts c.journal) (sym same) (reached_maximal m c ok r o))
-    (list_all (λ e. e) c.ended)
-    (subst (λ l. Weaves m.loc l m.scripts c.journal ↔ (list_all (λ e. e) c.ended ≡ true)) (sym same) (
-      λ k. marked-all c.ended (λ p l. n.0 k p (let z = s.ended_size in omega arith)),
+    (subst (λ l. (list_all (λ e. e) c.ended ≡ true) ↔ Weaves m.loc l m.scripts c.journal) (sym same) (
       λ h. n.1 (λ p l. marked-each c.ended h p (let z = s.ended_size in omega arith)),
+      λ k. marked-all c.ended (λ p l. n.0 k p (let z = s.ended_size in omega arith)),
     ))
 
 pub weaving_goes_on_from_states : WeavingGoesOnFromStates

@@ -7,8 +7,10 @@ ghost use Rattle.za_machine.specs.Laws.{OverIsMaximal, OverIsTheWeave, OverWeave
 ghost use Rattle.za_machine.specs.Laws.{WeavingGoesOnFromStates, RestsWeaveTheSame};
 ghost use Rattle.za_machine.specs.Laws.{NoHandsAtFirst, MovesKeepHands, InHandIsNotOver};
 
-/// Over every list of allowed events the journal fits the scripts, nobody has both arrived and
-/// ended, whoever has ended has its whole script in the journal, and the list is short.
+/// After every list of allowed events the journal fits the scripts, nobody has both arrived and ended,
+/// whoever has ended has its whole script in the journal, and a process has no next letter exactly if
+/// its whole script is there. Such a list has at most two events for each letter of the scripts and one
+/// for each process.
 pub fn events_are_sound()
     ensures fits { JournalsFit }
     ensures apart { ArrivedAreNotEnded }

@@ -21,7 +21,7 @@ use Rattle.za_dfa.proofs.GridLemmas.{row_of_cell}
 use Rattle.za_alpha.specs.NewNames.{is_taken}
 use Rattle.za_lang.specs.Documents.{acceptance_of}
 use Rattle.za_dfa.specs.Partials.{PartialDfa, IsPartial, is_accepting, target_of}
-use Rattle.za_lang.specs.Limits.{most_letters}
+use Rattle.za_lang.specs.Limits.{document_letters}
 use Rattle.za_print.specs.Printed as printed
 use Rattle.za_print.specs.Printed.{accepting_states, table_rows}
 use Rattle.za_print.proofs.Runs.{AreLetters, Finds, AreRows}
@@ -89,7 +89,7 @@ all_members [] n h = tt
 all_members (p ∷ ps) n h =
     (h p (or_left (p == p) (has ps p) (eq-eqb p p refl)), all_members ps n (λ q k. h q (let w : (p == q || has ps q) ≡ true = grind (arith, nat_tests) in w)))
 
-module _ (alphabet : DistributedAlphabet) (whole : IsDistributed alphabet) (short : length alphabet.letters ≤ most_letters) where
+module _ (alphabet : DistributedAlphabet) (whole : IsDistributed alphabet) (short : length alphabet.letters ≤ document_letters) where
   letters_from : (front ls : List NamedLetter) → front ++ ls ≡ alphabet.letters → AreLetters alphabet.processes front ls
   letters_from front [] e = tt
   letters_from front (l ∷ ls) e =

@@ -16,7 +16,7 @@ use Rattle.za_dfa.specs.declared.rows.Row.{Row}
 use Rattle.za_script.specs.Scripts.{total}
 use Rattle.za_script.specs.ScriptLists.{script_of, IsLetterOf}
 use Rattle.za_script.specs.Limits.{most_script_letters}
-use Rattle.za_lang.specs.Limits.{most_processes, most_states}
+use Rattle.za_lang.specs.Limits.{document_processes, document_states}
 use Rattle.za_lang.specs.Jobs.{JobData, IsJob}
 use Rattle.za_lang.specs.Order.{head_of, order_fault}
 use Rattle.za_lang.specs.Documents.{Said, Step, said, words_fault, faults_from, fault_of, script_of_steps, job_said, job_of, scripts_said}
@@ -239,9 +239,9 @@ module _ (job : JobData) (whole : IsJob job) where
       let m = numeral_value-decimal job.lang.states states_few in
       let q = numeral_value-decimal job.lang.start (omega arith) in
       let low : nat_le 1 alphabet.processes ≡ true = grind (arith, nat_tests) in
-      let high : nat_le alphabet.processes most_processes ≡ true = grind (arith, nat_tests) in
+      let high : nat_le alphabet.processes document_processes ≡ true = grind (arith, nat_tests) in
       let low' : nat_le 1 job.lang.states ≡ true = grind (arith, nat_tests) in
-      let high' : nat_le job.lang.states most_states ≡ true = grind (arith, nat_tests) in
+      let high' : nat_le job.lang.states document_states ≡ true = grind (arith, nat_tests) in
       let begin : nat_lt job.lang.start job.lang.states ≡ true = grind (arith, nat_tests) in
       let accepts = accepting_states job.lang in
       let below = accepting_below job.lang whole.lang in

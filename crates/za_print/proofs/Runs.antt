@@ -14,7 +14,7 @@ use Rattle.za_alpha.specs.NewNames.{is_taken}
 use Rattle.za_dfa.specs.declared.rows.Row.{Row}
 use Rattle.za_dfa.specs.Rows.{has_other}
 use Rattle.za_script.specs.Limits.{most_script_letters}
-use Rattle.za_lang.specs.Limits.{most_letters}
+use Rattle.za_lang.specs.Limits.{document_letters}
 use Rattle.za_lang.specs.Order.{head_of, next_place, order_fault}
 use Rattle.za_lang.specs.Tests.{loc_fault, new_letter_fault, accept_line_fault, new_row_fault, steps_fault}
 use Rattle.za_lang.specs.Documents.{Said, Step, said, words_fault, line_fault, faults_from, named_step, place_after, place_by}
@@ -76,7 +76,7 @@ small_numbers n (p ∷ ps) few h = (omega (arith, h.0), small_numbers n ps few h
 
 -- a letter that may come after these
 pub record LetterFits (n : ℕ) (front : List NamedLetter) (l : NamedLetter) : Type 0 where
-  pub few : length front < most_letters
+  pub few : length front < document_letters
   pub name : is_name l.name ≡ true
   pub fresh : is_taken front l.name ≡ false
   pub some : 0 < length (members l.loc)
@@ -85,7 +85,7 @@ pub record LetterFits (n : ℕ) (front : List NamedLetter) (l : NamedLetter) : T
 
 loc_right : (n : ℕ) (front : List NamedLetter) (l : NamedLetter) (p : ℕ) (ps : List ℕ) → n < 2 ^ 32 → LetterFits n front l → members l.loc ≡ p ∷ ps → new_letter_fault n front l.name (map decimal (p ∷ ps)) ≡ None
 loc_right n front l p ps few h e =
-    let room : nat_le most_letters (length front) ≡ false = let r = h.few in grind (arith, nat_tests) in
+    let room : nat_le document_letters (length front) ≡ false = let r = h.few in grind (arith, nat_tests) in
     let right = processes_right n (p ∷ ps) few (subst (AllByRecursion (λ p. p < n)) e h.procs) in
     rw (room, h.name, h.fresh) right
 

@@ -8,7 +8,7 @@ ghost use Rattle.za_script.specs.ScriptLists.{FitAlphabet};
 ghost use Rattle.za_text.specs.Printed.{spaced, line, text_of};
 ghost use Rattle.za_lang.specs.Answers.{data_of};
 ghost use Rattle.za_lang.specs.Documents.{fault_of, job_of};
-ghost use Rattle.za_lang.specs.Limits.{most_states};
+ghost use Rattle.za_lang.specs.Limits.{document_states};
 ghost use Rattle.za_print.specs.Printed.{letter_line, accepting_states, accept_line, row_line};
 ghost use Rattle.za_print.specs.Printed.{row_of_cell, row_lines, script_line, printed};
 
@@ -92,7 +92,7 @@ fn push_row(text: &mut Vec<u8>, alphabet: &Alphabet, row: Row) -> Result<(), Out
 /// The line of a cell of the table, if it has a target. Cell `q * m + a` is that of state `q` and
 /// letter `a`, where there are `m` letters.
 fn push_cell(text: &mut Vec<u8>, lang: &Lang, cell: usize) -> Result<(), OutOfMemory>
-    requires few { lang.now.states ≤ most_states }
+    requires few { lang.now.states ≤ document_states }
     requires cell { cell < lang.now.states * length lang.now.alphabet.letters }
     ensures { OnOk result (text.new.items
         ≡ text.old.items ++ text_of (map (row_line lang.now.alphabet.letters)
@@ -163,8 +163,8 @@ fn push_scripts(
 ///
 /// A letter's processes, the accepting states, the rows (by state, then by letter) and the processes of
 /// the script lines rise, and each process has one script line, also where its script is empty. The
-/// scripts have to fit the alphabet. `read_job` of the printed form answers an equal job.
-/// Want of memory is the one free answer.
+/// scripts have to fit the alphabet. The printed form is a document, and says an equal job. Want of
+/// memory is the one free answer.
 pub fn print_job(alloc: Global, job: &Job) -> Result<Vec<u8>, OutOfMemory>
     requires { FitAlphabet job.now.lang.alphabet job.now.scripts }
     ensures text { IfOk result (λ text. text.items ≡ printed (data_of job.now)) }

@@ -12,16 +12,14 @@ ghost use Rattle.za_residue.specs.Private.Turns.{turn_of, CanBeTaken};
 use crate::leaving::first_omitted;
 use crate::masks::Masks;
 use crate::residues::Residues;
-use crate::writing::{column, write_sets};
+use crate::writing::{TABLE_STATES, set_column, write_sets};
 use za_alpha::{Letter, MOST_PROCESSES, Procs};
 use za_dfa::Closed;
 
-/// What the participants of `a` keep of the states after their event: writes it into `into`.
-/// `inputs` has what each participant keeps after some word, in rising order of processes, and
-/// `masks` says what they share after it. `into` is for as many processes and states; what it held
-/// before doesn't matter. A set with a participant gets the identity; any other goes through the
-/// residues of the participants in turn and then through one step by `a` (Mukund 2012). All
-/// participants get the same functions, and all other processes keep theirs. It takes no memory.
+/// Writes into `into` the residues of the participants of `a` after an event of `a`, which are the same
+/// for each of them (Mukund 2012). `inputs` has the residues of each participant after some word, in
+/// rising order of processes, and `masks` says what they share after it. `into` is for as many
+/// processes and states; what it held before doesn't matter.
 pub fn advance(closed: &Closed, a: Letter, inputs: &[Residues], masks: &Masks, into: &mut Residues)
     requires letter { a.0 < length closed.now.alphabet.letters }
     requires given { (w : List ℕ)
@@ -34,8 +32,11 @@ pub fn advance(closed: &Closed, a: Letter, inputs: &[Residues], masks: &Masks, i
         (x : ℕ) → IsTrue (has (loc_of closed.now.alphabet a.0) x) →
         into.new ≡ table_residues closed.now (w ++ a.0 ∷ []) x }
 {
+    // A set with a participant gets the identity; any other goes through the residues of the
+    // participants in turn, and then through one step by the letter.
     let processes = closed.dfa().alphabet().processes();
-    let steps = column(closed, a);
+    let mut steps = [0; TABLE_STATES];
+    set_column(closed, a, &mut steps);
     let omitted = first_omitted(masks, inputs.len());
     write_sets(
         closed,
@@ -50,9 +51,8 @@ pub fn advance(closed: &Closed, a: Letter, inputs: &[Residues], masks: &Masks, i
     );
 }
 
-/// The state of the joint view of all processes, from the start: `inputs` has what each process
-/// keeps after some word, in order, and `masks` says what they share after it. It is where the word
-/// leads (Mukund 2012). It takes no memory.
+/// Where a word leads from the start (Mukund 2012): `inputs` has the residues of all processes after
+/// it, in rising order, and `masks` says what they share after it.
 pub fn join_all(closed: &Closed, inputs: &[Residues], masks: &Masks) -> u8
     requires { (w : List ℕ)
         × AreResiduesAfter closed.now w (range_with_len 0 closed.now.alphabet.processes) inputs.now

@@ -30,41 +30,29 @@ fn joined_set(set: Procs, more: Procs) -> Procs
     Procs(set.0 | more.0)
 }
 
-/// What is left out of the first inputs where `r` comes to the set.
-pub(crate) fn joined_sets(
+/// Writes what is left out of the first inputs where `r` comes to the set, and answers whether this is
+/// the same as before.
+pub(crate) fn join_sets(
     masks: &Masks,
     sets: &[Procs; MOST_PROCESSES],
     r: usize,
     inputs: usize,
-) -> [Procs; MOST_PROCESSES]
+    joined: &mut [Procs; MOST_PROCESSES],
+) -> bool
     requires process { r < most_processes }
     requires inputs { inputs ≤ most_processes }
-    ensures room { inputs ≤ length result }
-    ensures small { (i : ℕ) → i < inputs → (slice_index_or result i no_process).0 < 2 ^ 16 }
-    ensures members { (i s : ℕ) → i < inputs → has (members (slice_index_or result i no_process)) s
+    ensures room { inputs ≤ length joined.new }
+    ensures small { (i : ℕ) → i < inputs → (slice_index_or joined.new i no_process).0 < 2 ^ 16 }
+    ensures members { (i s : ℕ) → i < inputs → has (members (slice_index_or joined.new i no_process)) s
         ≡ (has (members (slice_index_or sets.now i no_process)) s || is_under masks.now i r s) }
+    ensures same { IsTrue result → (i : ℕ) → i < inputs →
+        slice_index_or joined.new i no_process ≡ slice_index_or sets.now i no_process }
 {
-    let mut joined = *sets;
+    let mut same = true;
     for i in 0..inputs {
-        joined[i] = joined_set(sets[i], masks.under[i][r]);
+        let set = joined_set(sets[i], masks.under[i][r]);
+        same = same & (set.0 == sets[i].0);
+        joined[i] = set;
     }
-    joined
-}
-
-/// Whether the first sets are the same.
-pub(crate) fn are_equal(
-    a: &[Procs; MOST_PROCESSES],
-    b: &[Procs; MOST_PROCESSES],
-    inputs: usize,
-) -> bool
-    requires { inputs ≤ most_processes }
-    ensures { IsTrue result → (i : ℕ) → i < inputs →
-        slice_index_or a.now i no_process ≡ slice_index_or b.now i no_process }
-{
-    for i in 0..inputs {
-        if a[i].0 != b[i].0 {
-            return false;
-        }
-    }
-    true
+    same
 }

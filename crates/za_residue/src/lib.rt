@@ -1,5 +1,6 @@
-//! Residues: what the part of a process's view that others don't know does to the states of an
-//! automaton, for each set of others, and how residues compose when processes meet.
+//! Residues of a process: for each set of processes, what the part of its view outside of the pasts of
+//! the latest events of these that it knows does to the states of an automaton; and what an event makes
+//! of the residues of its participants.
 #![tactic(auto)]
 
 mod composing;

@@ -1,4 +1,4 @@
-ghost use Rattle.std.specs.Prelude.{◌≡◌, ℕ, ◌≤◌, ◌==◌, ◌&&◌, not, length};
+ghost use Rattle.std.specs.Prelude.{◌≡◌, ℕ, ◌≤◌, ◌==◌, ◌&&◌, not, length, IsTrue};
 ghost use Rattle.za_alpha.specs.Words.{has};
 ghost use Rattle.za_alpha.specs.Procs.{members};
 ghost use Rattle.za_ids.specs.Numbers.{event_numbers};
@@ -27,16 +27,23 @@ pub fn below(primary: &[EventId], other: &[EventId]) -> Procs
 {
     let mut shared = Procs::none();
     for (s, id) in primary.iter().enumerate() {
-        if stands_in(*id, other) {
+        if stands_in(*id, s, other) {
             shared = shared.with(s);
         }
     }
     shared
 }
 
-/// Whether the number is that of an event, and stands in the row.
-fn stands_in(id: EventId, row: &[EventId]) -> bool
+/// Whether the number is that of an event, and stands in the row; it is looked for at this place first.
+fn stands_in(id: EventId, place: usize, row: &[EventId]) -> bool
     ensures { result ≡ (not (id.0 == 0) && has (event_numbers row.now) id.0) }
 {
-    id.0 != 0 && row.contains(&id)
+    id.0 != 0 && (stands_at(id, place, row) || row.contains(&id))
+}
+
+/// Whether the number stands in the row at this place.
+fn stands_at(id: EventId, place: usize, row: &[EventId]) -> bool
+    ensures { IsTrue result → IsTrue (has (event_numbers row.now) id.0) }
+{
+    place < row.len() && row[place].0 == id.0
 }

@@ -9,14 +9,17 @@ ghost use Rattle.za_residue.specs.Laws.{in_turn};
 ghost use Rattle.za_residue.specs.Private.Turns.{turn_of, AreOmitted, CanBeTaken};
 ghost use Rattle.za_residue.specs.Private.Written.{AreSteps, AreGiven, AreWritten};
 
-use crate::leaving::{are_equal, joined_sets};
+use crate::leaving::join_sets;
 use crate::masks::Masks;
 use crate::residues::{Residues, set_count};
 use za_alpha::{Letter, MOST_PROCESSES, Procs};
 use za_dfa::{Closed, MOST_STATES};
 
-/// The most states of a table: those of a document, and the added one.
-const TABLE_STATES: usize = MOST_STATES + 1;
+/// The most states of a table: those that are given, and the added one.
+pub(crate) const TABLE_STATES: usize = MOST_STATES + 1;
+
+/// No process, for each input.
+const NO_SETS: [Procs; MOST_PROCESSES] = [Procs(0); MOST_PROCESSES];
 
 /// Writes the functions after the event for a set, which has no participant, with each set of the
 /// first `processes` processes: half of them without the last of these, and then the others. Where
@@ -57,8 +60,8 @@ pub(crate) fn write_sets(
         write_identities(r, states, high);
         return;
     }
-    let more = joined_sets(masks, omitted, r, inputs.len());
-    if are_equal(&more, omitted, inputs.len()) {
+    let mut more = NO_SETS;
+    if join_sets(masks, omitted, r, inputs.len(), &mut more) {
         high.copy_from_slice(low);
         return;
     }
@@ -83,17 +86,15 @@ fn write_identities(processes: usize, states: usize, block: &mut [u8])
     high.copy_from_slice(low);
 }
 
-/// Where the letter leads from each state, by state.
-pub(crate) fn column(closed: &Closed, a: Letter) -> [u8; TABLE_STATES]
+/// Writes where the letter leads from each state, by state.
+pub(crate) fn set_column(closed: &Closed, a: Letter, column: &mut [u8; TABLE_STATES])
     requires letter { a.0 < length closed.now.alphabet.letters }
     ensures whole { IsComplete closed.now }
-    ensures steps { AreSteps closed.now a.0 result }
+    ensures steps { AreSteps closed.now a.0 column.new }
 {
-    let mut column = [0; TABLE_STATES];
     for q in 0..closed.dfa().states() {
         column[q] = closed.dfa().step(q as u8, a);
     }
-    column
 }
 
 /// Writes each state.

@@ -4,7 +4,8 @@ use Rattle.za_alpha.specs.Words.{IsAlphabet, IsWord, AreEquivalent}
 use Rattle.za_dfa.specs.Automata.{Automaton, is_accepted, IsTraceClosed}
 use Rattle.za_script.specs.declared.answer.Answer.TheVariants.{Accept, Reject, Stuck}
 use Rattle.za_script.specs.Scripts.{weave, Weaves, FitsMaximally}
-use Rattle.za_script.specs.Answer.{IsAnswer}
+use Rattle.za_script.specs.Woven.{WovenWord}
+use Rattle.za_script.specs.Answer.{IsAnswer, answer_by}
 
 -- the weave fits the scripts maximally
 abbrev pub WeaveIsMaximal : Type 0
@@ -57,3 +58,11 @@ StuckIsOfTheWeave =
     (loc : ℕ → List ℕ) (processes : ℕ) (d : Automaton) (scripts : ℕ → List ℕ) →
     IsAlphabet loc d.letters processes →
     (IsAnswer loc d scripts Stuck ↔ (Weaves loc d.letters scripts (weave loc d.letters processes scripts) → ⊥))
+
+-- the answer that a word gives is the answer, if it fits the scripts maximally, as the weave does, and says rightly
+-- whether it weaves them
+abbrev pub MaximalWordsHaveTheAnswer : Type 0
+MaximalWordsHaveTheAnswer =
+    (loc : ℕ → List ℕ) (processes : ℕ) (d : Automaton) (scripts : ℕ → List ℕ) (woven : WovenWord) →
+    IsAlphabet loc d.letters processes → IsTraceClosed loc d → FitsMaximally loc d.letters scripts woven.word →
+    (IsTrue woven.whole ↔ Weaves loc d.letters scripts woven.word) → IsAnswer loc d scripts (answer_by d woven)

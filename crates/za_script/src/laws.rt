@@ -2,6 +2,7 @@
 
 ghost use Rattle.za_script.specs.Laws.{WeaveIsMaximal, MaximalWordsAreOneTrace, WeaveDecides, MaximalWordsWeave};
 ghost use Rattle.za_script.specs.Laws.{AcceptIsOfTheWeave, RejectIsOfTheWeave, StuckIsOfTheWeave};
+ghost use Rattle.za_script.specs.Laws.{MaximalWordsHaveTheAnswer};
 ghost use Rattle.za_script.specs.RestLaws.{WeavingGoesOn, CutsFit, CutsWeaveOn, RestIsOneTrace, CountsAddUp};
 ghost use Rattle.za_script.specs.RestLaws.{RestIsClosed, RestHasTheAnswer};
 
@@ -16,11 +17,13 @@ pub fn weaving_is_confluent()
 {}
 
 /// For a trace-closed language the answer to scripts is that of the weave alone: it is stuck exactly
-/// if the weave doesn't use up the scripts, and else accept or reject as the weave is accepted.
+/// if the weave doesn't use up the scripts, and else accept or reject as the weave is accepted. Any
+/// word that fits the scripts maximally, as the weave does, serves for it.
 pub fn answer_is_of_the_weave()
     ensures accept { AcceptIsOfTheWeave }
     ensures reject { RejectIsOfTheWeave }
     ensures stuck { StuckIsOfTheWeave }
+    ensures maximal { MaximalWordsHaveTheAnswer }
 {}
 
 /// Weaving can be cut: from any word that fits the scripts on, it appends the weave of what the word

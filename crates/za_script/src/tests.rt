@@ -1,41 +1,51 @@
 use super::*;
-use std::alloc::{AllocError, Global};
+use std::alloc::Global;
 use std::process::Abort;
 use std::test::Fail;
 use za_alpha::{Alphabet, Letter, LetterRow, Word};
 use za_dfa::Dfa;
 
-fn row(alloc: Global, name: &[u8], procs: &[u32]) -> Result<LetterRow, AllocError> {
-    Ok(LetterRow {
-        name: Vec::from_slice(alloc, name)?,
-        procs: Vec::from_slice(alloc, procs)?,
-    })
-}
+const TWO_PROCESSES: [(&[u8], &[u32]); 3] = [(b"a", &[0]), (b"b", &[1]), (b"c", &[0, 1])];
 
-/// The letters a of process 0, b of process 1 and c of both.
-fn rows(alloc: Global) -> Result<Vec<LetterRow>, AllocError> {
+const ONE_PROCESS: [(&[u8], &[u32]); 1] = [(b"a", &[0])];
+
+fn alphabet_of(alloc: Global, n: usize, letters: &[(&[u8], &[u32])]) -> Result<Alphabet, Fail> {
     let mut rows = Vec::new(alloc);
-    rows.push(row(alloc, b"a", &[0])?)?;
-    rows.push(row(alloc, b"b", &[1])?)?;
-    rows.push(row(alloc, b"c", &[0, 1])?)?;
-    Ok(rows)
+    for (name, procs) in letters {
+        rows.push(LetterRow {
+            name: Vec::from_slice(alloc, name)?,
+            procs: Vec::from_slice(alloc, procs)?,
+        })?;
+    }
+    Ok(Alphabet::new(alloc, n, rows)?)
 }
 
-fn scripts(
+fn append(
     rt: &impl Abort,
+    scripts: &mut Scripts,
     alphabet: &Alphabet,
+    p: usize,
+    letters: &[u8],
+) -> Result<(), ScriptFault> {
+    for a in letters {
+        assert!(rt; p < scripts.processes() && p < alphabet.processes());
+        assert!(rt; (*a as usize) < alphabet.letters());
+        scripts.add(alphabet, p, Letter(*a))?;
+    }
+    Ok(())
+}
+
+/// The scripts of two processes.
+fn scripts_of(
+    rt: &impl Abort,
     alloc: Global,
+    alphabet: &Alphabet,
     first: &[u8],
     second: &[u8],
 ) -> Result<Scripts, ScriptFault> {
     let mut scripts = Scripts::empty(alloc, 2)?;
-    for (p, letters) in [(0, first), (1, second)] {
-        for a in letters {
-            assert!(rt; p < scripts.processes() && p < alphabet.processes());
-            assert!(rt; (*a as usize) < alphabet.letters());
-            scripts.add(alphabet, p, Letter(*a))?;
-        }
-    }
+    append(rt, &mut scripts, alphabet, 0, first)?;
+    append(rt, &mut scripts, alphabet, 1, second)?;
     Ok(scripts)
 }
 
@@ -46,30 +56,36 @@ fn assert_letters(rt: &impl Abort, word: &Word, letters: &[u8]) {
     }
 }
 
+fn assert_script(rt: &impl Abort, scripts: &Scripts, p: usize, letters: &[u8]) {
+    assert!(rt; p < scripts.processes());
+    assert_letters(rt, scripts.script(p), letters);
+}
+
 #[test]
 fn letters_are_appended_or_refused(rt: HostRuntime) -> Result<(), Fail> {
     let alloc = rt.alloc();
-    let alphabet = Alphabet::new(alloc, 2, rows(alloc)?)?;
+    let alphabet = alphabet_of(alloc, 2, &TWO_PROCESSES)?;
+    let foreign = ScriptFault::Foreign {
+        process: 0,
+        letter: Letter(1),
+    };
     let mut scripts = Scripts::empty(alloc, 2)?;
-    assert!(rt; alphabet.processes() == 2 && alphabet.letters() == 3);
-    assert_eq!(rt; scripts.add(&alphabet, 0, Letter(0)), Ok(()));
-    assert!(rt; scripts.processes() == 2);
-    assert_eq!(rt;
-        scripts.add(&alphabet, 0, Letter(1)),
-        Err(ScriptFault::Foreign {
-            process: 0,
-            letter: Letter(1)
-        })
-    );
-    assert!(rt; scripts.processes() == 2);
-    assert_eq!(rt; scripts.add(&alphabet, 1, Letter(2)), Ok(()));
+    for (p, letter, answer) in [(0, 0, Ok(())), (0, 1, Err(foreign)), (1, 2, Ok(()))] {
+        assert!(rt; append(&rt, &mut scripts, &alphabet, p, &[letter]) == answer);
+    }
+    assert_script(&rt, &scripts, 0, &[0]);
+    assert_script(&rt, &scripts, 1, &[2]);
+    Ok(())
+}
+
+#[test]
+fn scripts_fit_their_alphabet(rt: HostRuntime) -> Result<(), Fail> {
+    let alloc = rt.alloc();
+    let alphabet = alphabet_of(alloc, 2, &TWO_PROCESSES)?;
+    let scripts = scripts_of(&rt, alloc, &alphabet, &[0], &[2])?.copy()?;
+    assert!(rt; scripts.processes() == 2 && scripts.total() == 2);
     assert!(rt; scripts.fits(&alphabet));
-    let copy = scripts.copy()?;
-    assert!(rt; copy.processes() == 2 && copy.total() == 2);
-    assert_letters(&rt, copy.script(0), &[0]);
-    assert_letters(&rt, copy.script(1), &[2]);
-    let alone = Alphabet::new(alloc, 1, vec![in alloc; row(alloc, b"a", &[0])?]?)?;
-    assert!(rt; !scripts.fits(&alone));
+    assert!(rt; !scripts.fits(&alphabet_of(alloc, 1, &ONE_PROCESS)?));
     Ok(())
 }
 
@@ -85,40 +101,44 @@ fn answer(
     Ok(answer_of(&dfa, woven))
 }
 
+/// The scripts of two processes, the word that they weave, how many letters of it each has, and the
+/// answer.
+type Case = (
+    &'static [u8],
+    &'static [u8],
+    &'static [u8],
+    (usize, usize),
+    Answer,
+);
+
+fn assert_weave(
+    rt: &impl Abort,
+    alloc: Global,
+    alphabet: &Alphabet,
+    case: &Case,
+) -> Result<(), Fail> {
+    let (first, second, word, counts, by_word) = *case;
+    let scripts = scripts_of(rt, alloc, alphabet, first, second)?;
+    assert!(rt; alphabet.processes() == 2 && scripts.fits(alphabet));
+    let woven = weave(alloc, alphabet, &scripts)?;
+    assert!(rt; woven.count(0) == counts.0 && woven.count(1) == counts.1);
+    assert_letters(rt, woven.word(), word);
+    assert!(rt; answer(rt, alloc, alphabet, &woven)? == by_word);
+    Ok(())
+}
+
+const CASES: [Case; 3] = [
+    (&[0, 2, 0], &[1, 2], &[0, 1, 2, 0], (3, 2), Answer::Reject),
+    (&[2, 0], &[1], &[1], (0, 1), Answer::Stuck),
+    (&[], &[], &[], (0, 0), Answer::Accept),
+];
+
 #[test]
 fn two_processes_weave(rt: HostRuntime) -> Result<(), Fail> {
     let alloc = rt.alloc();
-    let alphabet = Alphabet::new(alloc, 2, rows(alloc)?)?;
-    assert!(rt; alphabet.processes() == 2);
-    for (first, second, word, counts, by_word) in [
-        (
-            [0, 2, 0].as_slice(),
-            [1, 2].as_slice(),
-            [0, 1, 2, 0].as_slice(),
-            (3, 2),
-            Answer::Reject,
-        ),
-        (
-            [2, 0].as_slice(),
-            [1].as_slice(),
-            [1].as_slice(),
-            (0, 1),
-            Answer::Stuck,
-        ),
-        (
-            [].as_slice(),
-            [].as_slice(),
-            [].as_slice(),
-            (0, 0),
-            Answer::Accept,
-        ),
-    ] {
-        let scripts = scripts(&rt, &alphabet, alloc, first, second)?;
-        assert!(rt; scripts.fits(&alphabet));
-        let woven = weave(alloc, &alphabet, &scripts)?;
-        assert_letters(&rt, woven.word(), word);
-        assert_eq!(rt; (woven.count(0), woven.count(1)), counts);
-        assert_eq!(rt; answer(&rt, alloc, &alphabet, &woven)?, by_word);
+    let alphabet = alphabet_of(alloc, 2, &TWO_PROCESSES)?;
+    for case in &CASES {
+        assert_weave(&rt, alloc, &alphabet, case)?;
     }
     Ok(())
 }

@@ -1,5 +1,6 @@
 -- Where the first line of a text ends.
-use Rattle.std.proofs.Common.{◌≡◌, ℕ, ◌+◌, ◌<◌, ◌≤◌, Bool, true, false, cond, not, ◌==◌, List, [], ◌∷◌, length, take, drop, refl, add-one, arith}
+use Rattle.std.proofs.Common.{◌≡◌, ℕ, ◌+◌, ◌<◌, ◌≤◌, Bool, true, false, cond, not, ◌==◌, List, [], ◌∷◌, length, take, drop, get_or, refl, sym, ap, add-one, arith}
+use Rattle.std.proofs.lemmas.List.Sums.{prefix_len_is}
 use Rattle.std.proofs.Math.Numerals.{one-add}
 use Rattle.std.specs.List.{prefix_len}
 use Rattle.za_text.specs.Lines.{lines_of}
@@ -37,3 +38,17 @@ lines_last (b ∷ bs) some h = last_at (b == 10) b bs refl h (lines_last bs)
 
 pub first_whole : (bs : List ℕ) (n : ℕ) → n ≡ len bs → n < length bs → lines_of bs ≡ record { text = take n bs; whole = true } ∷ lines_of (drop (n + 1) bs)
 first_whole bs n e h = let h : len bs < length bs = omega arith in rw e (lines_whole bs h)
+
+-- the line feed is where a search for it comes to
+module _ (bs : List ℕ) where
+  other : (feed : Bool) → ¬ (feed ≡ true) → not feed ≡ true
+  other true h = absurd (h refl)
+  other false h = refl
+
+  pub len_at : (at : ℕ) → at < length bs → ((k : ℕ) → k < at → ¬ ((get_or bs k 0 == 10) ≡ true)) → (get_or bs at 0 == 10) ≡ true → at ≡ len bs
+  len_at at within before feed =
+      sym (prefix_len_is (λ b. not (b == 10)) bs at 0 (omega arith) (λ k h. other (get_or bs k 0 == 10) (before k h)) (λ _. ap not feed))
+
+  pub len_nowhere : ((k : ℕ) → k < length bs → ¬ ((get_or bs k 0 == 10) ≡ true)) → length bs ≡ len bs
+  len_nowhere nowhere =
+      sym (prefix_len_is (λ b. not (b == 10)) bs (length bs) 0 (omega arith) (λ k h. other (get_or bs k 0 == 10) (nowhere k h)) (λ h. absurd (omega arith)))

@@ -14,7 +14,7 @@ pub enum Kind {
     OutOfOrder,
     /// A line that begins so has another number of words.
     WordCount,
-    /// The text ends before its last `end`.
+    /// The text ends where an `end` is missing.
     NoEnd,
     /// A word follows the last `end`.
     Trailing,

@@ -4,6 +4,7 @@ ghost use Rattle.za_text.specs.Lines.{lines_of, raw, is_allowed, IsLastLine, IsN
 ghost use Rattle.za_text.specs.Words.{LeftWords};
 
 use crate::word::WordsOf;
+use memchr::memchr;
 use std::marker::Model;
 
 /// A line of a text: its number from 1 on, its bytes without the line feed, and whether a line feed
@@ -38,12 +39,10 @@ fn line_len(bytes: &[u8]) -> usize
     ensures value { result ≡ prefix_len (λ b. not (b == 10)) bytes.now }
     ensures within { result ≤ length bytes.now }
 {
-    for (i, b) in bytes.iter().enumerate() {
-        if *b == b'\n' {
-            return i;
-        }
+    match memchr(b'\n', bytes) {
+        Some(at) => at,
+        None => bytes.len(),
     }
-    bytes.len()
 }
 
 impl<'a> Lines<'a> {

@@ -17,8 +17,10 @@ ghost use Rattle.za_theorem.specs.Laws.{
   ProgramRunsTheAutomaton,
 };
 
-/// Zielonka's theorem: a language is that of a deterministic asynchronous automaton exactly if it is
-/// regular and trace-closed, and exactly if it is that of a complete automaton with every diamond.
+/// Zielonka's theorem, over letters whose participants are processes (Zielonka 1987; Mukund 2012): a
+/// language is distributable, that of a deterministic asynchronous automaton, exactly if it is regular
+/// and trace-closed; that of a complete automaton exactly if it is trace-closed; and, where each letter
+/// has a participant, a language exactly if it is that of a complete automaton with every diamond.
 pub fn zielonka()
     ensures exactly { ZielonkasTheorem }
     ensures diamonds { DistributableByDiamonds }
@@ -44,8 +46,11 @@ pub fn diamond_automaton()
     ensures { ClosedHasDiamonds }
 {}
 
-/// What a letter makes of its participants, the label of its event, and where a word leads depend on
-/// local states alone, and local states on the trace alone.
+/// What local states depend on, where each letter has participants and these are processes. For a
+/// complete automaton with every diamond: what a letter makes of its participants, and the label of its
+/// event, depend on their local states alone; where a word leads, on those of all processes alone; and
+/// equivalent words have the same local states. For any automaton: those who take part in an event have
+/// the same local state after it, and all others keep theirs.
 pub fn locality()
     ensures transition { TransitionIsLocal }
     ensures participants { ParticipantsAgreeOnLocals }
@@ -61,8 +66,10 @@ pub fn finiteness()
     ensures apart { CodesTellApart }
 {}
 
-/// This repository runs such an automaton: `transit` of za_local computes its transitions, and
-/// `verdict` tells whether it accepts.
+/// Each table with every diamond has a deterministic asynchronous automaton with its language that the
+/// program runs, its local states being numbers of those of the program: it starts in openings, a
+/// letter makes of local states after a word what `transit` of za_local promises to make of them, and
+/// it accepts where the state that `verdict` promises to answer does.
 pub fn program_runs_the_automaton()
     ensures { ProgramRunsTheAutomaton }
 {}

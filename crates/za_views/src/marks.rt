@@ -15,10 +15,6 @@ use za_alpha::{Alphabet, Letter, MOST_PROCESSES, OutOfMemory};
 /// A word over an alphabet that grows event by event, with what each process knows newest of the
 /// others and with the label of each event (Mukund and Sohoni 1997). Events are named by their
 /// positions, from 0 on.
-///
-/// All memory is taken by `new`: a copy of the alphabet, and a row of one entry a process for each
-/// event that there is room for. What a call does depends on the number of processes, and not on the
-/// length of the word.
 #[derive(Debug, Drop)]
 pub struct Marks {
     alphabet: Alphabet,
@@ -43,7 +39,7 @@ impl Model for Marks {
 impl Marks {
     ghost use Rattle.za_views.specs.Marks.{unmarked};
 
-    /// The empty word, with room for `room` events. No later call takes memory.
+    /// The empty word over the alphabet, with room for `room` events, 65,536 at most.
     pub fn new(alloc: Global, alphabet: &Alphabet, room: usize) -> Result<Marks, OutOfMemory>
         requires { room ≤ 65536 }
         ensures { IfOk result (λ m. m ≡ unmarked alphabet.now room) }

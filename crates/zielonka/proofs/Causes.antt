@@ -1,21 +1,22 @@
 -- The cause of each status, by cases of what a run did.
-use Rattle.std.proofs.Common.{◌≡◌, ◌≢◌, ℕ, ◌+◌, ◌<◌, ◌≤◌, ◌||◌, Bool, true, false, inl, inr, ◌⊎◌, List, [], ◌∷◌, ◌++◌, length, length-append, take, Option, Some, None, sym, ap, subst, ◌∙◌, refl, arith}
+use Rattle.std.proofs.Common.{◌≡◌, ◌≢◌, ℕ, ◌+◌, ◌<◌, ◌≤◌, ◌||◌, true, false, inl, inr, ◌⊎◌, List, [], ◌∷◌, ◌++◌, length, length-append, Option, Some, None, sym, ap, subst, ◌∙◌, refl, arith}
 use Rattle.std.specs.Prelude.{◌==◌}
 use Rattle.std.specs.List.{list_any}
 use Rattle.std.specs.Io.KnownBytes.{Consumes, IsAtEnd}
 use Rattle.std.proofs.lemmas.Bool.{or_left}
 use Rattle.std.proofs.lemmas.List.{append-nil}
 use Rattle.za_base.specs.Fault.{Rises}
+use Rattle.za_base.specs.Ends.{Ends}
 use Rattle.za_script.specs.declared.answer.Answer.{Answer}
 use Rattle.za_script.specs.declared.answer.Answer.TheVariants.{Accept, Reject, Stuck}
 use Rattle.zielonka.specs.declared.request.Command.{Command}
-use Rattle.zielonka.specs.declared.request.Command.TheVariants.{Solo}
 use Rattle.zielonka.specs.declared.request.Request.{Request}
-use Rattle.zielonka.specs.declared.request.Request.TheVariants.{Usage as AsksUsage, NotBuilt as AsksMore, Answer as Asks}
+use Rattle.zielonka.specs.declared.request.Request.TheVariants.{Usage as AsksUsage, NotBuilt as AsksMore, Answer as Asks, Generate as AsksJob}
+use Rattle.za_gen.specs.Generated.{generated_text}
 use Rattle.zielonka.specs.Limits.{most_bytes}
 use Rattle.zielonka.specs.Output.{IsOutput, Refused, Read, IsDueFor, Open, Answered, IsAnswered, Ran, Checked, Told, usage_text, too_long_text, not_built_text, status_of}
-use Rattle.zielonka.specs.Run.{Ends, AreNoForm, AreNotBuilt, AskFor, ReadNothing, ReadAll, ReadNotTooMany, ReadTooMany, NoReadFailed, NoWriteFailed, WroteNothing, WroteAll, WrotePart, IsDue, Usage, NotBuilt, TooLong, Said, HasRun, Wrote, WriteFault, ReadFault, NoMemory}
-use Rattle.zielonka.specs.Laws.{UsageIsOfTheWords, WordsDecideTheUsage, NotBuiltIsOfTheWords, WordsDecideNotBuilt, AskForSome, ReadFaultIsOfTheSource, WriteFaultIsOfTheSink, CountsStay, TooLongIsOfTheBytes, TooManyDecide, TooManyComplete, NoMemoryWritesNothing, is_of_bytes, AnswerIsOfAllBytes, StatusesAreKnown, RunCompletes}
+use Rattle.zielonka.specs.Run.{AreNoForm, AreNotBuilt, AskFor, AskForJob, ReadNothing, ReadNotTooMany, ReadTooMany, NoReadFailed, NoWriteFailed, WroteNothing, WroteAll, WrotePart, IsDue, Usage, NotBuilt, TooLong, Generated, Said, HasRun, Wrote, WriteFault, ReadFault, NoMemory}
+use Rattle.zielonka.specs.Laws.{UsageIsOfTheWords, WordsDecideTheUsage, NotBuiltIsOfTheWords, WordsDecideNotBuilt, WroteJob, WordsDecideTheJob, JobCompletes, AskForSome, ReadFaultIsOfTheSource, WriteFaultIsOfTheSink, CountsStay, TooLongIsOfTheBytes, TooManyDecide, TooManyComplete, NoMemoryWritesNothing, is_of_bytes, HasAnsweredAll, AnswerIsOfAllBytes, StatusesAreKnown, RunCompletes}
 use Rattle.za_lang.specs.Jobs.{JobData}
 
 -- an answer's status is one of those of bytes
@@ -42,35 +43,31 @@ output-status (Read status text right job due) = due-status due
 other : (status number : ℕ) → is_of_bytes status ≡ true → is_of_bytes number ≡ false → status ≡ number → ⊥
 other status number h k e = let both : true ≡ false = sym h ∙ ap is_of_bytes e ∙ k in absurd (cc)
 
--- which of three the words ask for
-abbrev is_usage : Request → Bool
-is_usage AsksUsage = true
-is_usage AsksMore = false
-is_usage (Asks command) = false
-
-abbrev is_more : Request → Bool
-is_more AsksUsage = false
-is_more AsksMore = true
-is_more (Asks command) = false
-
+-- the words ask for one thing alone
 usage-not-more : {a : Request} → a ≡ AsksUsage → a ≡ AsksMore → ⊥
-usage-not-more u m = let both : true ≡ false = ap is_usage (sym u ∙ m) in absurd (cc)
+usage-not-more u m = absurd (let both : AsksUsage ≡ AsksMore = sym u ∙ m in cc)
 
 usage-not-read : {a : Request} (command : Command) → a ≡ AsksUsage → a ≡ Asks command → ⊥
-usage-not-read command u r = let both : true ≡ false = ap is_usage (sym u ∙ r) in absurd (cc)
+usage-not-read command u r = absurd (let both : AsksUsage ≡ Asks command = sym u ∙ r in cc)
 
 more-not-read : {a : Request} (command : Command) → a ≡ AsksMore → a ≡ Asks command → ⊥
-more-not-read command m r = let both : true ≡ false = ap is_more (sym m ∙ r) in absurd (cc)
+more-not-read command m r = absurd (let both : AsksMore ≡ Asks command = sym m ∙ r in cc)
 
--- the command that is asked for is one
-command-in : Request → Command
-command-in AsksUsage = Solo
-command-in AsksMore = Solo
-command-in (Asks command) = command
+usage-not-job : {a : Request} (number : ℕ) → a ≡ AsksUsage → a ≡ AsksJob number → ⊥
+usage-not-job number u j = absurd (let both : AsksUsage ≡ AsksJob number = sym u ∙ j in cc)
 
+more-not-job : {a : Request} (number : ℕ) → a ≡ AsksMore → a ≡ AsksJob number → ⊥
+more-not-job number m j = absurd (let both : AsksMore ≡ AsksJob number = sym m ∙ j in cc)
+
+read-not-job : {a : Request} (command : Command) (number : ℕ) → a ≡ Asks command → a ≡ AsksJob number → ⊥
+read-not-job command number r j = absurd (let both : Asks command ≡ AsksJob number = sym r ∙ j in cc)
+
+-- the command that is asked for is one, and so is the number
 one-command : {a : Request} (c k : Command) → a ≡ Asks c → a ≡ Asks k → c ≡ k
-unfolding command-in
-one-command c k e f = ap command-in (sym e ∙ f)
+one-command c k e f = let both : Asks c ≡ Asks k = sym e ∙ f in cc
+
+one-number : {a : Request} (n k : ℕ) → a ≡ AsksJob n → a ≡ AsksJob k → n ≡ k
+one-number n k e f = let both : AsksJob n ≡ AsksJob k = sym e ∙ f in cc
 
 -- no more bytes are taken than there are
 taken_within : (bytes taken : List ℕ) (now : Option (List ℕ)) → Consumes (Some bytes) now taken → length taken ≤ length bytes
@@ -94,6 +91,7 @@ module _ (words : List (List ℕ)) (old new : Ends) where
   usage_due (Usage none nothing) e = (none, nothing, refl)
   usage_due (NotBuilt more nothing) e = absurd (omega arith)
   usage_due (TooLong command asks many) e = absurd (omega arith)
+  usage_due (Generated number asks nothing) e = absurd (omega arith)
   usage_due (Said command bytes status text asks all output) e = absurd (other status 2 (output-status output) refl e)
 
   usage_run : {status : ℕ} → HasRun words old new status → status ≡ 2 → AreNoForm words × ReadNothing old new × WroteAll old new usage_text
@@ -107,6 +105,7 @@ module _ (words : List (List ℕ)) (old new : Ends) where
   words_due (Usage none nothing) no_form = refl
   words_due (NotBuilt more nothing) no_form = absurd (usage-not-more no_form more)
   words_due (TooLong command asks many) no_form = absurd (usage-not-read command no_form asks)
+  words_due (Generated number asks nothing) no_form = absurd (usage-not-job number no_form asks)
   words_due (Said command bytes status text asks all output) no_form = absurd (usage-not-read command no_form asks)
 
   words_run : {status : ℕ} → HasRun words old new status → AreNoForm words → (status ≡ 2) ⊎ ((status ≡ 7) ⊎ (status ≡ 8))
@@ -120,6 +119,7 @@ module _ (words : List (List ℕ)) (old new : Ends) where
   not_built_due (Usage none nothing) e = absurd (omega arith)
   not_built_due (NotBuilt more nothing) e = (more, nothing, refl)
   not_built_due (TooLong command asks many) e = absurd (omega arith)
+  not_built_due (Generated number asks nothing) e = absurd (omega arith)
   not_built_due (Said command bytes status text asks all output) e = absurd (other status 10 (output-status output) refl e)
 
   not_built_run : {status : ℕ} → HasRun words old new status → status ≡ 10 → AreNotBuilt words × ReadNothing old new × WroteAll old new not_built_text
@@ -133,6 +133,7 @@ module _ (words : List (List ℕ)) (old new : Ends) where
   more_due (Usage none nothing) more = absurd (usage-not-more none more)
   more_due (NotBuilt also nothing) more = refl
   more_due (TooLong command asks many) more = absurd (more-not-read command more asks)
+  more_due (Generated number asks nothing) more = absurd (more-not-job number more asks)
   more_due (Said command bytes status text asks all output) more = absurd (more-not-read command more asks)
 
   more_run : {status : ℕ} → HasRun words old new status → AreNotBuilt words → (status ≡ 10) ⊎ ((status ≡ 7) ⊎ (status ≡ 8))
@@ -146,6 +147,7 @@ module _ (words : List (List ℕ)) (old new : Ends) where
   due_status (Usage none nothing) = inl (inl refl)
   due_status (NotBuilt more nothing) = inl (inr (inr refl))
   due_status (TooLong command asks many) = inl (inr (inl refl))
+  due_status (Generated number asks nothing) = inr refl
   due_status (Said command bytes status text asks all output) = inr (output-status output)
 
   -- so no other status is due
@@ -175,6 +177,7 @@ module _ (words : List (List ℕ)) (old new : Ends) where
   counts_due (Usage none nothing) = nothing.1
   counts_due (NotBuilt more nothing) = nothing.1
   counts_due (TooLong command asks many) = many.1
+  counts_due (Generated number asks nothing) = nothing.1
   counts_due (Said command bytes status text asks all output) = all.3
 
   counts_run : {status : ℕ} → HasRun words old new status → (status ≢ 6 → NoReadFailed old new) × (status ≢ 7 → NoWriteFailed old new)
@@ -195,6 +198,7 @@ module _ (words : List (List ℕ)) (old new : Ends) where
   too_long_due (Usage none nothing) e = absurd (omega arith)
   too_long_due (NotBuilt more nothing) e = absurd (omega arith)
   too_long_due (TooLong command asks many) e = ((command, asks), many, refl)
+  too_long_due (Generated number asks nothing) e = absurd (omega arith)
   too_long_due (Said command bytes status text asks all output) e = absurd (other status 9 (output-status output) refl e)
 
   too_long_run : {status : ℕ} → HasRun words old new status → status ≡ 9 → AskForSome words × ReadTooMany old new × WroteAll old new too_long_text
@@ -215,6 +219,7 @@ module _ (words : List (List ℕ)) (old new : Ends) where
     many_due (Usage none nothing) many = absurd (untouched nothing many)
     many_due (NotBuilt more nothing) many = absurd (untouched nothing many)
     many_due (TooLong command asks also) many = inl refl
+    many_due (Generated number asks nothing) many = absurd (untouched nothing many)
     many_due (Said command taken status text asks all output) many =
         let same : length taken ≡ length many.0.0 = one_length bytes taken many.0.0 new.left (subst (λ left. Consumes left new.left taken) told all.1) (subst (λ left. Consumes left new.left many.0.0) told many.0.1.0) in
         let few : length taken ≤ most_bytes = all.0 in
@@ -235,6 +240,7 @@ module _ (words : List (List ℕ)) (old new : Ends) where
       more_than_all (Usage none nothing) = absurd (usage-not-read asks.0 none asks.1)
       more_than_all (NotBuilt more nothing) = absurd (more-not-read asks.0 more asks.1)
       more_than_all (TooLong command also taken) = (refl, refl)
+      more_than_all (Generated number also nothing) = absurd (read-not-job asks.0 number asks.1 also)
       more_than_all (Said command taken status text also all output) =
           let same : taken ≡ bytes = all_taken bytes taken new.left (subst (λ left. Consumes left new.left taken) told all.1) all.2 in
           let size : length taken ≡ length bytes = ap length same in
@@ -247,17 +253,51 @@ module _ (words : List (List ℕ)) (old new : Ends) where
       many_completes (ReadFault command also few rose nothing) no_read no_write = absurd (no_read rose)
       many_completes (NoMemory few same nothing) no_read no_write = inl refl
 
-  -- the statuses of bytes
-  all_read_due : {status : ℕ} {text : List ℕ} → IsDue words old new status text → is_of_bytes status ≡ true →
-      (command : Command) × (bytes : List ℕ) × AskFor words command × ReadAll old new bytes × IsOutput command bytes status text
-  all_read_due (Usage none nothing) h = absurd (cc)
-  all_read_due (NotBuilt more nothing) h = absurd (cc)
-  all_read_due (TooLong command asks many) h = absurd (cc)
-  all_read_due (Said command bytes status text asks all output) h = (command, bytes, asks, all, output)
+  -- a generated job
+  job_due : (number : ℕ) {status : ℕ} {text : List ℕ} → IsDue words old new status text → AskForJob words number →
+      (status ≡ 0) × ReadNothing old new × (text ≡ generated_text number)
+  job_due number (Usage none nothing) asks = absurd (usage-not-job number none asks)
+  job_due number (NotBuilt more nothing) asks = absurd (more-not-job number more asks)
+  job_due number (TooLong command also many) asks = absurd (read-not-job command number also asks)
+  job_due number (Generated other also nothing) asks = (refl, nothing, ap generated_text (one-number other number also asks))
+  job_due number (Said command bytes status text also all output) asks = absurd (read-not-job command number also asks)
 
-  all_read_run : {status : ℕ} → HasRun words old new status → is_of_bytes status ≡ true →
-      (command : Command) × (bytes text : List ℕ) × AskFor words command × ReadAll old new bytes × IsOutput command bytes status text × WroteAll old new text
-  all_read_run (Wrote status text due whole) h = let cause = all_read_due due h in (cause.0, cause.1, text, cause.2, cause.3, cause.4, whole)
+  -- how a run ends that writes it
+  abbrev JobEnds : ℕ → ℕ → Type 0
+  JobEnds number status = ((status ≡ 0) × WroteJob old new number) ⊎ (((status ≡ 7) × Rises old.write_faults new.write_faults) ⊎ (status ≡ 8))
+
+  job_run : (number : ℕ) {status : ℕ} → HasRun words old new status → AskForJob words number → JobEnds number status
+  job_run number (Wrote status text due whole) asks = let is = job_due number due asks in inl (is.0, (is.1, subst (WroteAll old new) is.2 whole))
+  job_run number (WriteFault status k text due part) asks = inr (inl (refl, part.2))
+  job_run number (ReadFault command also few rose nothing) asks = absurd (read-not-job command number also asks)
+  job_run number (NoMemory few same nothing) asks = inr (inr refl)
+
+  job_decides : (number : ℕ) {status : ℕ} → JobEnds number status →
+      ((status ≡ 0) × WroteJob old new number) ⊎ ((status ≡ 7) ⊎ (status ≡ 8))
+  job_decides number (inl whole) = inl whole
+  job_decides number (inr (inl fault)) = inr (inl fault.0)
+  job_decides number (inr (inr none)) = inr (inr none)
+
+  job_completed : (number : ℕ) {status : ℕ} → JobEnds number status →
+      ¬ Rises old.write_faults new.write_faults → (status ≡ 8) ⊎ ((status ≡ 0) × WroteJob old new number)
+  job_completed number (inl whole) no_write = inr whole
+  job_completed number (inr (inl fault)) no_write = absurd (no_write fault.1)
+  job_completed number (inr (inr none)) no_write = inl none
+
+  -- the statuses of bytes
+  abbrev WholeJob : ℕ → Type 0
+  WholeJob status = (number : ℕ) × (status ≡ 0) × AskForJob words number × WroteJob old new number
+
+  all_read_due : {status : ℕ} {text : List ℕ} → IsDue words old new status text → is_of_bytes status ≡ true → WroteAll old new text →
+      HasAnsweredAll words old new status ⊎ WholeJob status
+  all_read_due (Usage none nothing) h whole = absurd (cc)
+  all_read_due (NotBuilt more nothing) h whole = absurd (cc)
+  all_read_due (TooLong command asks many) h whole = absurd (cc)
+  all_read_due (Generated number asks nothing) h whole = inr (number, refl, asks, (nothing, whole))
+  all_read_due (Said command bytes status text asks all output) h whole = inl (command, bytes, text, asks, all, output, whole)
+
+  all_read_run : {status : ℕ} → HasRun words old new status → is_of_bytes status ≡ true → HasAnsweredAll words old new status ⊎ WholeJob status
+  all_read_run (Wrote status text due whole) h = all_read_due due h whole
   all_read_run (WriteFault status k text due part) h = absurd (cc)
   all_read_run (ReadFault command asks few rose nothing) h = absurd (cc)
   all_read_run (NoMemory few same nothing) h = absurd (cc)
@@ -284,6 +324,7 @@ module _ (words : List (List ℕ)) (old new : Ends) where
     completes_due (TooLong also same many) =
         let within : length many.0.0 ≤ length bytes = taken_within bytes many.0.0 new.left (subst (λ left. Consumes left new.left many.0.0) told many.0.1.0) in
         let size : length many.0.0 ≡ most_bytes + 1 = many.0.1.1 in absurd (omega arith)
+    completes_due (Generated number also nothing) = absurd (read-not-job command number asks also)
     completes_due (Said also taken status text too all output) =
         let same : taken ≡ bytes = all_taken bytes taken new.left (subst (λ left. Consumes left new.left taken) told all.1) all.2 in
         let one : also ≡ command = one-command also command too asks in
@@ -307,6 +348,12 @@ not_built words old new run = not_built_run words old new run refl
 
 pub words_decide_not_built : WordsDecideNotBuilt
 words_decide_not_built words old new status run more = more_run words old new run more
+
+pub words_decide_job : WordsDecideTheJob
+words_decide_job words old new status number run asks = job_decides words old new number (job_run words old new number run asks)
+
+pub job_completes : JobCompletes
+job_completes words old new status number run asks no_write = job_completed words old new number (job_run words old new number run asks) no_write
 
 pub read_fault : ReadFaultIsOfTheSource
 read_fault words old new run = read_fault_run words old new run refl

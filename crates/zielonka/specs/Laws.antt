@@ -1,17 +1,22 @@
 -- The causes of each status.
-use Rattle.std.specs.Prelude.{◌≡◌, ◌≢◌, ℕ, ◌<◌, ◌≤◌, ◌==◌, ◌||◌, ◌⊎◌, ◌↔◌, Bool, IsTrue, List, [], ◌∷◌, length, Some, None}
+use Rattle.std.specs.Prelude.{◌≡◌, ◌≢◌, ℕ, ◌<◌, ◌≤◌, ◌==◌, ◌||◌, ◌⊎◌, ◌↔◌}
+use Rattle.std.specs.Prelude.{Bool, IsTrue, List, [], ◌∷◌, length, Some, None}
 use Rattle.std.specs.List.{list_any}
 use Rattle.za_alpha.specs.Alphabet.{loc_of}
 use Rattle.za_base.specs.Fault.{Rises}
+use Rattle.za_base.specs.Ends.{Ends}
 use Rattle.za_closure.specs.Breaks.{Break, IsBreak}
 use Rattle.za_dfa.specs.Tables.{automaton_of}
 use Rattle.za_text.specs.declared.kind.TextFault.{TextFault}
 use Rattle.za_lang.specs.Jobs.{IsJob}
 use Rattle.za_lang.specs.Documents.{fault_of, job_of}
+use Rattle.za_gen.specs.Generated.{generated_text}
 use Rattle.zielonka.specs.declared.request.Command.{Command}
 use Rattle.zielonka.specs.Limits.{most_bytes}
 use Rattle.zielonka.specs.Output.{IsOutput, given, usage_text, too_long_text, not_built_text}
-use Rattle.zielonka.specs.Run.{Ends, AreNoForm, AreNotBuilt, AskFor, NoReadFailed, NoWriteFailed, ReadNothing, ReadAll, ReadNotTooMany, ReadTooMany, WroteNothing, WroteAll, WrotePart, IsDue, HasRun}
+use Rattle.zielonka.specs.Run.{AreNoForm, AreNotBuilt, AskFor, AskForJob, NoReadFailed, NoWriteFailed}
+use Rattle.zielonka.specs.Run.{ReadNothing, ReadAll, ReadNotTooMany, ReadTooMany, WroteNothing, WroteAll, WrotePart}
+use Rattle.zielonka.specs.Run.{IsDue, HasRun}
 
 -- ---- runs
 
@@ -38,6 +43,23 @@ abbrev pub WordsDecideNotBuilt : Type 0
 WordsDecideNotBuilt =
     (words : List (List ℕ)) (old new : Ends) (status : ℕ) → HasRun words old new status → AreNotBuilt words →
     (status ≡ 10) ⊎ ((status ≡ 7) ⊎ (status ≡ 8))
+
+-- the generated job was written whole, and nothing was read
+abbrev pub WroteJob : Ends → Ends → ℕ → Type 0
+WroteJob old new number = ReadNothing old new × WroteAll old new (generated_text number)
+
+-- words that ask for a generated job have no status but 0, where it was written whole with nothing read, 7 and 8
+abbrev pub WordsDecideTheJob : Type 0
+WordsDecideTheJob =
+    (words : List (List ℕ)) (old new : Ends) (status number : ℕ) → HasRun words old new status →
+    AskForJob words number → ((status ≡ 0) × WroteJob old new number) ⊎ ((status ≡ 7) ⊎ (status ≡ 8))
+
+-- and where the sink's count of faults didn't rise, it is 0 or 8
+abbrev pub JobCompletes : Type 0
+JobCompletes =
+    (words : List (List ℕ)) (old new : Ends) (status number : ℕ) → HasRun words old new status →
+    AskForJob words number → ¬ Rises old.write_faults new.write_faults →
+    (status ≡ 8) ⊎ ((status ≡ 0) × WroteJob old new number)
 
 -- the words ask for some command that reads the source
 abbrev pub AskForSome : List (List ℕ) → Type 0
@@ -90,12 +112,18 @@ NoMemoryWritesNothing = (words : List (List ℕ)) (old new : Ends) → HasRun wo
 abbrev pub is_of_bytes : ℕ → Bool
 is_of_bytes status = list_any (λ s. s == status) (0 ∷ 1 ∷ 3 ∷ 4 ∷ 5 ∷ [])
 
--- such a status comes only where all bytes were read, and the text that is due for them was written whole
+-- all bytes were read, and the text that is due for them was written whole
+abbrev pub HasAnsweredAll : List (List ℕ) → Ends → Ends → ℕ → Type 0
+HasAnsweredAll words old new status =
+    (command : Command) × (bytes text : List ℕ) × AskFor words command × ReadAll old new bytes
+    × IsOutput command bytes status text × WroteAll old new text
+
+-- such a status comes only so, or it is 0, the words ask for a generated job, and it was written whole
 abbrev pub AnswerIsOfAllBytes : Type 0
 AnswerIsOfAllBytes =
     (words : List (List ℕ)) (old new : Ends) (status : ℕ) → HasRun words old new status → IsTrue (is_of_bytes status) →
-    (command : Command) × (bytes text : List ℕ) × AskFor words command × ReadAll old new bytes
-    × IsOutput command bytes status text × WroteAll old new text
+    HasAnsweredAll words old new status
+    ⊎ ((number : ℕ) × (status ≡ 0) × AskForJob words number × WroteJob old new number)
 
 -- there is no other status
 abbrev pub StatusesAreKnown : Type 0

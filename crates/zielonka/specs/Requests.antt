@@ -7,7 +7,7 @@ use Rattle.za_command.specs.Plans.{plan_of}
 use Rattle.zielonka.specs.declared.request.Command as the
 use Rattle.zielonka.specs.declared.request.Command.TheVariants as command
 use Rattle.zielonka.specs.declared.request.Request.{Request}
-use Rattle.zielonka.specs.declared.request.Request.TheVariants.{Usage, NotBuilt, Answer}
+use Rattle.zielonka.specs.declared.request.Request.TheVariants.{Usage, NotBuilt, Answer, Generate}
 
 -- a command that reads a job; a cache isn't built
 abbrev pub without_cache : ℕ → the.Command → Request
@@ -21,7 +21,7 @@ request_by (Check cache) = without_cache cache command.Check
 request_by (Locals cache) = without_cache cache command.Locals
 request_by (Journal cache) = Usage
 request_by Audit = NotBuilt
-request_by (Gen number) = NotBuilt
+request_by (Gen number) = Generate number
 
 -- command words in no form ask for the usage line
 abbrev pub request_in : List (List ℕ) → Request

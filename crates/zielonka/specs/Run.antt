@@ -1,20 +1,16 @@
 -- What a run of the program does, from its source to its sink.
-use Rattle.std.specs.Prelude.{◌≡◌, ℕ, ◌<◌, ◌≤◌, ◌+◌, List, length, take, Option}
+use Rattle.std.specs.Prelude.{◌≡◌, ℕ, ◌<◌, ◌≤◌, ◌+◌, List, length, take}
 use Rattle.std.specs.Io.KnownBytes.{Consumes, Appends, IsAtEnd}
 use Rattle.za_base.specs.Read.{Took}
 use Rattle.za_base.specs.Fault.{Rises}
+use Rattle.za_base.specs.Ends.{Ends}
+use Rattle.za_gen.specs.Generated.{generated_text}
 use Rattle.zielonka.specs.Limits.{most_bytes}
 use Rattle.zielonka.specs.declared.request.Command.{Command}
-use Rattle.zielonka.specs.declared.request.Request.TheVariants.{Usage as AsksUsage, NotBuilt as AsksMore, Answer as Asks}
+use Rattle.zielonka.specs.declared.request.Request.TheVariants.{Usage as AsksUsage, NotBuilt as AsksMore}
+use Rattle.zielonka.specs.declared.request.Request.TheVariants.{Answer as Asks, Generate as AsksJob}
 use Rattle.zielonka.specs.Requests.{request_in}
 use Rattle.zielonka.specs.Output.{IsOutput, usage_text, too_long_text, not_built_text}
-
--- the source and the sink at one moment: the bytes left and written, where they tell them, and their counts of faults
-pub record Ends : Type 0 where
-  pub left : Option (List ℕ)
-  pub read_faults : ℕ
-  pub written : Option (List ℕ)
-  pub write_faults : ℕ
 
 -- the words are in no form of a command that waits for nobody
 abbrev pub AreNoForm : List (List ℕ) → Type 0
@@ -27,6 +23,10 @@ AreNotBuilt words = request_in words ≡ AsksMore
 -- they ask for a command that reads the source
 abbrev pub AskFor : List (List ℕ) → Command → Type 0
 AskFor words command = request_in words ≡ Asks command
+
+-- they ask for the job that is generated from a number
+abbrev pub AskForJob : List (List ℕ) → ℕ → Type 0
+AskForJob words number = request_in words ≡ AsksJob number
 
 -- no read failed, and no write: the count of faults is what it was
 abbrev pub NoReadFailed : Ends → Ends → Type 0
@@ -70,6 +70,8 @@ pub data IsDue (words : List (List ℕ)) (old new : Ends) : ℕ → List ℕ →
   Usage : AreNoForm words → ReadNothing old new → IsDue words old new 2 usage_text
   NotBuilt : AreNotBuilt words → ReadNothing old new → IsDue words old new 10 not_built_text
   TooLong : (command : Command) → AskFor words command → ReadTooMany old new → IsDue words old new 9 too_long_text
+  Generated : (number : ℕ) → AskForJob words number → ReadNothing old new →
+      IsDue words old new 0 (generated_text number)
   Said : (command : Command) (bytes : List ℕ) (status : ℕ) (text : List ℕ) → AskFor words command →
       ReadAll old new bytes → IsOutput command bytes status text → IsDue words old new status text
 

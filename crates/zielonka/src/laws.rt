@@ -1,12 +1,12 @@
 //! Laws over the definitions alone.
 
 ghost use Rattle.zielonka.specs.Laws.{AnswerIsOfAllBytes, CountsStay, NoMemoryWritesNothing, NotBuiltIsOfTheWords};
-ghost use Rattle.zielonka.specs.Laws.{OpenExactly, OutputIsOne, ReadFaultIsOfTheSource, RefusedExactly};
+ghost use Rattle.zielonka.specs.Laws.{JobCompletes, OpenExactly, OutputIsOne, ReadFaultIsOfTheSource, RefusedExactly};
 ghost use Rattle.zielonka.specs.Laws.{RunCompletes, SomethingIsDue, StatusesAreKnown, TooLongIsOfTheBytes};
 ghost use Rattle.zielonka.specs.Laws.{TooManyComplete, TooManyDecide, UsageIsOfTheWords, WordsDecideNotBuilt};
-ghost use Rattle.zielonka.specs.Laws.{WordsDecideTheUsage, WriteFaultIsOfTheSink};
+ghost use Rattle.zielonka.specs.Laws.{WordsDecideTheJob, WordsDecideTheUsage, WriteFaultIsOfTheSink};
 
-/// For each command and each text one status and one text are due.
+/// For each command and each text at most one status and one text are due.
 #[tactic(auto, using(crate::proofs::OneOutput::output_is_one))]
 pub fn what_is_due_is_one()
     ensures { OutputIsOne }
@@ -27,21 +27,26 @@ pub fn refusals_are_exact()
 {}
 
 /// What a run did tells the cause of its status. Status 2 comes only of words that are in no form, and
-/// 10 only of words in a form that isn't built, with nothing read; and such words have no other status
-/// but 7 and 8. Status 6 comes only where the source's count of faults rose before too many bytes were
-/// taken, with nothing written, and 7 only where the sink's did, after a proper prefix of a text that is
-/// due; with any other status that count is what it was. Status 9 comes only where one byte more than
-/// the limit was taken, and where the source tells its bytes, a run that took so many ends with 9, 7 or
-/// 8. Status 8, want of memory, comes with nothing written. Each of 0, 1, 3, 4 and 5 comes only where all
-/// bytes were read, and the text that is due for them was written whole. Where the source tells its bytes
-/// and has not too many, and neither count of faults rose, a command that reads them ends with 8 or with
-/// what is due for all bytes. A count that stands at its last value counts as one that rose. What is said
-/// of bytes holds of sources and sinks that tell them.
+/// 10 only of words in a form that isn't built, with nothing read and the line that is due written whole;
+/// and such words have no other status but 7 and 8. Words that ask for a generated job have no status but
+/// 7, 8 and 0, with the job written whole and nothing read; without a fault of the sink 8 or 0. Status 6
+/// comes only where the source's count of faults rose before too many bytes were taken, with nothing
+/// written, and 7 only where the sink's did, after a proper prefix of a text that is due; with any other
+/// status that count is what it was. Status 9 comes only where one byte more than the limit was taken, and
+/// its line was written whole; where the source tells its bytes, a run that took so many, with no read
+/// that failed, ends with 9, 7 or 8. Status 8, want of memory, comes with nothing written. But for the 0 of
+/// a generated job each of 0, 1, 3, 4 and 5 comes only where all bytes were read, and the text that is due
+/// for them was written whole. There are no statuses but 0 to 10. Where the source tells its bytes and
+/// neither count of faults rose, a command that reads them ends with 8, or, of too many, with 9, or else
+/// with what is due for all bytes. A count that stands at its last value counts as one that rose. What is
+/// said of bytes holds of sources and sinks that tell them.
 pub fn statuses_have_their_causes()
     ensures usage { UsageIsOfTheWords }
     ensures words { WordsDecideTheUsage }
     ensures not_built { NotBuiltIsOfTheWords }
     ensures words_not_built { WordsDecideNotBuilt }
+    ensures words_job { WordsDecideTheJob }
+    ensures job_completes { JobCompletes }
     ensures read_fault { ReadFaultIsOfTheSource }
     ensures write_fault { WriteFaultIsOfTheSink }
     ensures counts { CountsStay }

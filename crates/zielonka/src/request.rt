@@ -24,6 +24,8 @@ pub enum Request {
     NotBuilt,
     /// A command, without a cache.
     Answer(Command),
+    /// The job that is generated from a number.
+    Generate { number: u32 },
 }
 
 /// A command, where it is to have no cache.
@@ -46,7 +48,8 @@ fn request_by(plan: Plan) -> Request
         Plan::Check { cache } => without_cache(cache, Command::Check),
         Plan::Locals { cache } => without_cache(cache, Command::Locals),
         Plan::Run { .. } | Plan::Journal { .. } => Request::Usage,
-        Plan::Audit | Plan::Gen { .. } => Request::NotBuilt,
+        Plan::Audit => Request::NotBuilt,
+        Plan::Gen { number } => Request::Generate { number },
     }
 }
 

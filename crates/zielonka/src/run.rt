@@ -1,4 +1,5 @@
 ghost use Rattle.std.specs.Prelude.{◌≡◌, map, string_bytes};
+ghost use Rattle.za_base.specs.Ends.{ends_of};
 ghost use Rattle.zielonka.specs.Run.{HasRun};
 ghost use Rattle.zielonka.specs.Private.Saying.{HasAnswered, HasSaid};
 
@@ -8,6 +9,7 @@ use crate::status::{Outcome, Status};
 use std::alloc::Global;
 use za_alpha::OutOfMemory;
 use za_base::{ReadEnd, Sink, Source, read_all, write_all};
+use za_gen::job_of;
 
 /// The most bytes of an input.
 pub const MOST_BYTES: usize = 1_048_576;
@@ -40,18 +42,8 @@ fn answer<S: Source, K: Sink>(
     sink: &mut K,
 ) -> Outcome
     ensures { HasAnswered command
-        (record {
-          left = S.left source.old;
-          read_faults = S.faults source.old;
-          written = K.written sink.old;
-          write_faults = K.faults sink.old;
-        })
-        (record {
-          left = S.left source.new;
-          read_faults = S.faults source.new;
-          written = K.written sink.new;
-          write_faults = K.faults sink.new;
-        })
+        (ends_of (S.left source.old) (S.faults source.old) (K.written sink.old) (K.faults sink.old))
+        (ends_of (S.left source.new) (S.faults source.new) (K.written sink.new) (K.faults sink.new))
         result.status.0 }
 {
     match read_all(alloc, source, MOST_BYTES) {
@@ -66,15 +58,15 @@ fn answer<S: Source, K: Sink>(
 }
 
 /// The program for the commands that wait for nobody. It reads the source to its end, and writes to
-/// the sink what is due for the words and these bytes. It returns for every input.
+/// the sink what is due for the words and these bytes.
 ///
 /// The words are those after the program's name. `solo` answers accept (0), reject (1) or stuck (3):
 /// what the automaton of the job says of all words that weave the job's scripts. It says how many letters
 /// the weave has, and where the scripts are stuck, which these are and what each process waits for.
 /// `check` answers how many states the minimal automaton of the job's language has (0). `locals` answers
-/// what each process knows after the weave (0). Of other forms `audit`, `gen` and a cache above 0 aren't
-/// built yet (10), and `run` and `journal` are none here; those, and words in no form, are answered by the
-/// usage line (2). In these two cases the source isn't read.
+/// what each process knows after the weave (0). `gen` writes the job that is generated from a number (0). Of
+/// other forms `audit` and a cache above 0 aren't built yet (10), and `run` and `journal` are none here; those,
+/// and words in no form, are answered by the usage line (2). In these three cases the source isn't read.
 ///
 /// Bytes that are no document are refused at their first wrong line (4), more than 1,048,576 of them
 /// too (9). A language that isn't closed under trace equivalence is answered by two equivalent words
@@ -92,18 +84,8 @@ pub fn plain<S: Source, K: Sink>(
     sink: &mut K,
 ) -> Outcome
     ensures { HasRun (map string_bytes words.now)
-        (record {
-          left = S.left source.old;
-          read_faults = S.faults source.old;
-          written = K.written sink.old;
-          write_faults = K.faults sink.old;
-        })
-        (record {
-          left = S.left source.new;
-          read_faults = S.faults source.new;
-          written = K.written sink.new;
-          write_faults = K.faults sink.new;
-        })
+        (ends_of (S.left source.old) (S.faults source.old) (K.written sink.old) (K.faults sink.old))
+        (ends_of (S.left source.new) (S.faults source.new) (K.written sink.new) (K.faults sink.new))
         result.status.0 }
 {
     match request_in(alloc, words) {
@@ -111,5 +93,9 @@ pub fn plain<S: Source, K: Sink>(
         Ok(Request::Usage) => say(sink, 2, USAGE),
         Ok(Request::NotBuilt) => say(sink, 10, NOT_BUILT),
         Ok(Request::Answer(command)) => answer(alloc, command, source, sink),
+        Ok(Request::Generate { number }) => match job_of(alloc, number) {
+            Err(OutOfMemory) => Outcome { status: Status(8) },
+            Ok(text) => say(sink, 0, text.as_slice()),
+        },
     }
 }

@@ -3,7 +3,7 @@
 /// | Number | Meaning |
 /// |---|---|
 /// | 0, 1, 3 | accept or done, reject, stuck |
-/// | 2 | usage: the words are in no form |
+/// | 2 | usage: the words are in no form of a command that waits for nobody |
 /// | 4 | the input is no document |
 /// | 5 | the language is not closed under trace equivalence |
 /// | 6, 7 | a read, a write failed |

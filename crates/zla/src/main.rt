@@ -5,6 +5,7 @@ ghost use Rattle.std.specs.Prelude.{◌≡◌, IfErr, IfOk, drop, map, string_by
 ghost use Rattle.std.specs.IoError.{error_kind};
 ghost use Rattle.std.specs.Process.{exit_status};
 ghost use Rattle.std.specs.Vec.Iter.{into_iter_items};
+ghost use Rattle.za_base.specs.Ends.{ends_of};
 ghost use Rattle.zielonka.specs.Run.{HasRun};
 ghost use Rattle.zla.specs.Refusals.{IsRefusal};
 
@@ -16,7 +17,7 @@ use za_base::{Sink, Source, StdSink, StdSource};
 use zielonka::{Status, plain};
 
 /// The status where the system refuses the program's arguments: 8 for want of memory, and 11 for any other
-/// kind of error, as that of a word that is no text.
+/// kind of error.
 fn refused(kind: ErrorKind) -> Status
     ensures { IsRefusal kind result.0 }
 {
@@ -47,18 +48,8 @@ fn run<S: Source, K: Sink>(
     sink: &mut K,
 ) -> Status
     ensures ran { IfOk args (λ args. HasRun (map string_bytes (drop 1 (into_iter_items args)))
-        (record {
-          left = S.left source.old;
-          read_faults = S.faults source.old;
-          written = K.written sink.old;
-          write_faults = K.faults sink.old;
-        })
-        (record {
-          left = S.left source.new;
-          read_faults = S.faults source.new;
-          written = K.written sink.new;
-          write_faults = K.faults sink.new;
-        })
+        (ends_of (S.left source.old) (S.faults source.old) (K.written sink.old) (K.faults sink.old))
+        (ends_of (S.left source.new) (S.faults source.new) (K.written sink.new) (K.faults sink.new))
         result.0) }
     ensures refused { IfErr args (λ error. IsRefusal (error_kind error) result.0) }
     ensures source { IfErr args (λ _. source.new ≡ source.old) }

@@ -227,7 +227,7 @@ const UNREAD: [Case; 12] = [
     // forms that aren't built
     (&["--cache=4", "solo"], "", "", 10, "not built\n"),
     (&["audit"], "", "", 10, "not built\n"),
-    (&["gen", "7"], "", "", 10, "not built\n"),
+    (&["check", "--cache", "64"], "", "", 10, "not built\n"),
 ];
 
 /// Streams that take so many bytes a call, and of which these calls fail.

@@ -1,5 +1,5 @@
 -- An index of names: chains of the letters whose names have the same key, from the last letter to the first.
-use Rattle.std.specs.Prelude.{◌≡◌, ◌≢◌, ℕ, suc, ◌+◌, ◌-◌, ◌*◌, ◌/◌, ◌%◌, ◌<◌, ◌≤◌, List, [], ◌∷◌, length, slice_index}
+use Rattle.std.specs.Prelude.{◌≡◌, ◌≢◌, ℕ, suc, ◌+◌, ◌*◌, ◌%◌, ◌<◌, ◌≤◌, List, fold, length, slice_index}
 use Rattle.za_alpha.specs.declared.index.Index.{Index}
 use Rattle.za_alpha.specs.Limits.{most_letters}
 use Rattle.za_alpha.specs.Alphabet.{NamedLetter, name_at}
@@ -8,13 +8,9 @@ use Rattle.za_alpha.specs.Alphabet.{NamedLetter, name_at}
 abbrev pub keys : ℕ
 keys = 256
 
--- the key of a name: of its length, and of its first, middle and last byte
+-- the key of a name, made byte by byte
 abbrev pub key_of : List ℕ → ℕ
-key_of [] = 0
-key_of (b ∷ bs) =
-    let name = b ∷ bs in
-    let n = length name in
-    (b * 5 + slice_index name (n / 2) * 16 + slice_index name (n - 1) + n % keys * 3) % keys
+key_of name = fold (λ key b. (key * 37 + b) % keys) 0 name
 
 -- the first `count` letters, of which `key` tells the keys, on their chains: `first` has for each key the last letter
 -- that has it, and `next` for each letter the last one before it that has its key; each as one more than its place, and

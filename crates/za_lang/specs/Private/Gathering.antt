@@ -1,5 +1,6 @@
 -- What lines and one line more say, and the job that has it.
-use Rattle.std.specs.Prelude.{◌≡◌, ℕ, ◌+◌, ◌<◌, ◌++◌, Bool, true, false, List, [], ◌∷◌, All, length, fold, slice_set, Option, Some, None, Result, MatchResult}
+use Rattle.std.specs.Prelude.{◌≡◌, ℕ, ◌+◌, ◌<◌, ◌++◌, Bool, true, false, List, [], ◌∷◌, All}
+use Rattle.std.specs.Prelude.{length, fold, slice_set, Option, Some, None, Result, MatchResult}
 use Rattle.za_text.specs.declared.kind.Kind.{Kind}
 use Rattle.za_alpha.specs.Alphabet.{DistributedAlphabet}
 use Rattle.za_dfa.specs.Private.Entered.{AreEntered}
@@ -10,7 +11,8 @@ use Rattle.za_lang.specs.declared.fault.Refusal.{Refusal}
 use Rattle.za_lang.specs.declared.fault.Refusal.TheVariants as refusal
 use Rattle.za_lang.specs.Jobs.{JobData}
 use Rattle.za_lang.specs.Order.{head_of, next_place}
-use Rattle.za_lang.specs.Documents.{Said, processes_said, letters_said, states_said, start_said, accepts_said, rows_said, steps_said, acceptance_of, script_of_steps, own_fault}
+use Rattle.za_lang.specs.Documents.{Said, processes_said, letters_said, states_said, start_said, accepts_said}
+use Rattle.za_lang.specs.Documents.{rows_said, steps_said, acceptance_of, script_of_steps, own_fault}
 
 -- the line is refused so, unless memory was refused
 abbrev pub IsWrong : Option Kind → Refusal → Type 0

@@ -2,13 +2,13 @@
 use Rattle.std.specs.Prelude.{ℕ, ◌≤◌, [], length, replicate}
 use Rattle.za_alpha.specs.Alphabet.{DistributedAlphabet}
 use Rattle.za_dfa.specs.Partials.{blank}
-use Rattle.za_lang.specs.Limits.{most_processes, most_letters}
+use Rattle.za_lang.specs.Limits.{document_processes, document_letters}
 use Rattle.za_lang.specs.Jobs.{JobData}
 
 -- the processes and letters so far are within the limits
 pub record AreFew (alphabet : DistributedAlphabet) : Type 0 where
-  pub processes : alphabet.processes ≤ most_processes
-  pub letters : length alphabet.letters ≤ most_letters
+  pub processes : alphabet.processes ≤ document_processes
+  pub letters : length alphabet.letters ≤ document_letters
 
 -- the job over an alphabet with so many states that has neither rows nor accepting states nor script letters
 abbrev pub blank_job : DistributedAlphabet → ℕ → JobData

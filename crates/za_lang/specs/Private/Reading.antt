@@ -2,7 +2,8 @@
 use Rattle.std.specs.Prelude.{◌≡◌, Bool, true, false, List, [], ◌∷◌}
 use Rattle.za_alpha.specs.Alphabet.{DistributedAlphabet, NamedLetter}
 use Rattle.za_lang.specs.declared.order.Place.{Place}
-use Rattle.za_lang.specs.declared.order.Place.TheVariants.{AtHeader, AtProcesses, AtFirstLetter, AtLetters, AtStart, AtAccept, AtRows, AtScripts, AfterEnd}
+use Rattle.za_lang.specs.declared.order.Place.TheVariants.{AtHeader, AtProcesses, AtFirstLetter, AtLetters}
+use Rattle.za_lang.specs.declared.order.Place.TheVariants.{AtStart, AtAccept, AtRows, AtScripts, AfterEnd}
 use Rattle.za_lang.specs.declared.reading.Reading.{Reading}
 use Rattle.za_lang.specs.declared.reading.Reading.TheVariants as reading
 use Rattle.za_lang.specs.Answers.{data_of}

@@ -2,8 +2,9 @@
 use Rattle.std.specs.Prelude.{◌≡◌, ℕ, ◌<◌, List, length, take, Option}
 use Rattle.std.specs.Io.KnownBytes.{Appends}
 use Rattle.za_base.specs.Fault.{Rises}
+use Rattle.za_base.specs.Ends.{Ends}
 use Rattle.zielonka.specs.declared.request.Command.{Command}
-use Rattle.zielonka.specs.Run.{Ends, AskFor, HasRun}
+use Rattle.zielonka.specs.Run.{AskFor, HasRun}
 
 -- a text was written whole, no write failed, and the status is the one given; or a proper prefix of it, and then the
 -- sink's count of faults rose, and the status is 7

@@ -3,7 +3,7 @@ use Rattle.std.proofs.lemmas.List.Elements.{All-nil}
 use Rattle.za_alpha.specs.Procs.{members}
 use Rattle.za_alpha.specs.Alphabet.{DistributedAlphabet, loc_of}
 use Rattle.za_gossip.specs.Rows.{Rows, rows_after, blank_rows, AreRowsAfter}
-use Rattle.callers.proofs.Openings.{same-for-all}
+use Rattle.za_alpha.proofs.Copies.{same-for-all}
 use Rattle.callers.proofs.gossip.after_first.Goals as goal
 
 -- copies of the blank rows are the rows of the letter's processes before any event

@@ -7,7 +7,7 @@ use Rattle.za_order.proofs.Rising.{length-members-le}
 use Rattle.za_dfa.specs.Tables.{CompleteDfa}
 use Rattle.za_local.specs.Locals.{LocalState, local_after, AreLocalsAfter, HasShape}
 use Rattle.za_local.proofs.Shapes.{shape-after}
-use Rattle.callers.proofs.Openings.{same-for-all}
+use Rattle.za_alpha.proofs.Copies.{same-for-all}
 use Rattle.callers.proofs.locals.after_first.Goals as goal
 
 -- copies of the opening are the local states of the letter's processes before any event

@@ -1,24 +1,15 @@
-use Rattle.std.proofs.Common.{◌≡◌, ◌↔◌, Bool, true, false, List, ℕ, length, ap, subst, sym, refl, ◌∙◌}
-use Rattle.std.specs.Prelude.{IsTrue, if◌then◌else◌}
+use Rattle.std.proofs.Common.{◌≡◌, ◌↔◌, length, ap, subst, sym, ◌∙◌}
+use Rattle.std.specs.Prelude.{IsTrue}
 use Rattle.za_alpha.specs.Words.{IsWord}
 use Rattle.za_alpha.specs.Alphabet.{DistributedAlphabet, loc_of}
-use Rattle.za_dfa.specs.Automata.{is_accepted}
 use Rattle.za_dfa.specs.Tables.{CompleteDfa, automaton_of, IsComplete}
 use Rattle.za_dfa.proofs.TableLemmas.{total_of_complete}
 use Rattle.za_script.specs.declared.answer.Answer.{Answer}
-use Rattle.za_script.specs.declared.answer.Answer.TheVariants.{Accept, Reject, Stuck}
-use Rattle.za_script.specs.Scripts.{weave, Weaves}
+use Rattle.za_script.specs.Scripts.{Weaves, FitsMaximally}
 use Rattle.za_script.specs.ScriptLists.{script_of}
 use Rattle.za_script.specs.Woven.{weave_of}
 use Rattle.za_script.specs.Answer.{IsAnswer, answer_by}
 use Rattle.callers.proofs.scripts.answer.Goals as goal
-
--- what holds of each answer in its case holds of the one that a woven word gives
-by_cases : (P : Answer → Type 0) (used accepted : Bool) → (used ≡ true → accepted ≡ true → P Accept) → (used ≡ true → accepted ≡ false → P Reject) → (used ≡ false → P Stuck) →
-    P (if used then (if accepted then Accept else Reject) else Stuck)
-by_cases P true true accept reject stuck = accept refl refl
-by_cases P true false accept reject stuck = reject refl refl
-by_cases P false accepted accept reject stuck = stuck refl
 
 pub answer_of-requires : goal.answer_of-requires
 answer_of-requires c =
@@ -45,14 +36,8 @@ returns c =
     let closed = c.diamonds_close_the_language.ensures.closed (loc_of d.alphabet) d.alphabet.processes (automaton_of d) located (total_of_complete d whole) c.dfa-dfa.ensures.diamonds in
     let word : woven.word ≡ weave_of d.alphabet c.args.scripts.now = c.in_ok-woven.ensures.weave.word ∙ ap (λ (a : DistributedAlphabet). weave_of a c.args.scripts.now) same in
     let used = subst (λ (a : DistributedAlphabet). IsTrue woven.whole ↔ Weaves (loc_of a) (length a.letters) scripts woven.word) same c.in_ok-woven.ensures.whole in
-    let law = c.answer_is_of_the_weave.ensures in
-    let weaves : woven.whole ≡ true → Weaves (loc_of d.alphabet) (length d.alphabet.letters) scripts (weave_of d.alphabet c.args.scripts.now) =
-    λ t. subst (λ w. Weaves (loc_of d.alphabet) (length d.alphabet.letters) scripts w) word (used.0 t) in
-    let accepts = ap (is_accepted (automaton_of d)) (sym word) in
+    let full = c.weaving_is_confluent.ensures.maximal (loc_of d.alphabet) (length d.alphabet.letters) d.alphabet.processes scripts located in
     let is : c.answer_of.result ≡ answer_by (automaton_of d) woven = c.answer_of.ensures ∙ ap (λ (x : CompleteDfa). answer_by (automaton_of x) woven) value in
     subst (λ (answer : Answer). IsAnswer (loc_of d.alphabet) (automaton_of d) scripts answer) (sym is)
-    (by_cases (λ answer. IsAnswer (loc_of d.alphabet) (automaton_of d) scripts answer) woven.whole (is_accepted (automaton_of d) woven.word)
-    (λ t f. (law.accept (loc_of d.alphabet) d.alphabet.processes (automaton_of d) scripts located closed).1 (weaves t, accepts ∙ f))
-    (λ t f. (law.reject (loc_of d.alphabet) d.alphabet.processes (automaton_of d) scripts located closed).1 (weaves t, accepts ∙ f))
-    (λ f. (law.stuck (loc_of d.alphabet) d.alphabet.processes (automaton_of d) scripts located).1
-    (λ k. let t = used.1 (subst (λ w. Weaves (loc_of d.alphabet) (length d.alphabet.letters) scripts w) (sym word) k) in let both : true ≡ false = sym t ∙ f in cc)))
+    (c.answer_is_of_the_weave.ensures.maximal (loc_of d.alphabet) d.alphabet.processes (automaton_of d) scripts woven located closed
+    (subst (λ w. FitsMaximally (loc_of d.alphabet) (length d.alphabet.letters) scripts w) (sym word) full) used)

@@ -1,15 +1,11 @@
-use Rattle.std.proofs.Common.{◌≡◌, ℕ, List, [], ◌∷◌, length, map, replicate, refl, ap, ◌∙◌, arith}
+use Rattle.std.proofs.Common.{◌≡◌, ℕ, [], length, map, replicate, ap, ◌∙◌, arith}
 use Rattle.std.proofs.lemmas.List.Elements.{All-nil}
 use Rattle.za_alpha.specs.Procs.{members}
 use Rattle.za_alpha.specs.Alphabet.{loc_of}
+use Rattle.za_alpha.proofs.Copies.{same-for-all}
 use Rattle.za_gossip.specs.Rows.{rows_after, blank_rows}
 use Rattle.za_gossip.proofs.RowsOf.{blank-opening}
 use Rattle.za_gossip.proofs.tests.before_all.Goals as goal
-
--- what is the same for all is a list of copies
-same-for-all : {X : Type 0} (f : ℕ → X) (one : X) (xs : List ℕ) → ((x : ℕ) → one ≡ f x) → replicate (length xs) one ≡ map f xs
-same-for-all f one [] same = refl
-same-for-all f one (x ∷ xs) same = ap (λ y. y ∷ replicate (length xs) one) (same x) ∙ ap (λ rest. f x ∷ rest) (same-for-all f one xs same)
 
 pub returns : goal.returns
 returns c =

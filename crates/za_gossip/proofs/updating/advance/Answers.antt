@@ -39,6 +39,15 @@ least_free-label-requires-clause-few_numbers c =
     ∙ sym (cube n) ∙ ap (λ m. m ^ 3) (sym c.processes-n.ensures.value) in
     omega arith
 
+pub write_row-requires-clause-some : goal.write_row-requires-clause-some
+write_row-requires-clause-some c = inputs-some c.args.alphabet.now c.args.a.0 c.processes-n.ensures.whole c.requires.letter c.args.inputs.now c.requires.rows.0 c.requires.rows.1
+
+pub write_row-requires-2-clause-some : goal.write_row-requires-2-clause-some
+write_row-requires-2-clause-some c = inputs-some c.args.alphabet.now c.args.a.0 c.processes-n.ensures.whole c.requires.letter c.args.inputs.now c.requires.rows.0 c.requires.rows.1
+
+pub write_row-requires-3-clause-some : goal.write_row-requires-3-clause-some
+write_row-requires-3-clause-some c = inputs-some c.args.alphabet.now c.args.a.0 c.processes-n.ensures.whole c.requires.letter c.args.inputs.now c.requires.rows.0 c.requires.rows.1
+
 -- a row of `into` is as long as that of each input
 pub write_row-requires-clause-rows : goal.write_row-requires-clause-rows
 write_row-requires-clause-rows c = λ k d l.
@@ -88,13 +97,13 @@ module _ (c : After-write_row-3) (w : List ℕ) (given : AreRowsAfter c.args.alp
   abbrev known : ℕ → Ids
   known = ids (loc_of c.args.alphabet.now) n w (length w)
 
-  row : (level : Level) (own : List ℕ) (sources : List (Option ℕ)) (into : List EventId) → into ≡ items_of level c.into.inside → sources ≡ c.sources-sources.result → own ≡ own_block n xs c.args.a.0 known level →
+  row : (level : Level) (own : List ℕ) (sources : List (Option ℕ)) (into : List EventId) → into ≡ items_of level c.into.inside → sources ≡ c.set_sources.new.sources → own ≡ own_block n xs c.args.a.0 known level →
       map (joined_entry own sources (map (level_of level) c.args.inputs.now)) (range_with_len 0 (length into)) ≡ level_of level (rows_of n (updated n xs c.args.a.0 known))
   row level own sources into e s o =
       row-written c.args.alphabet.now c.args.a.0 c.processes-n.ensures.whole c.requires.letter c.args.inputs.now w given level own sources (length into)
       (ap length e ∙ level-size n c.into.inside c.args.into.now c.into.view_is c.into.invariant c.requires.shape level) o
-      (λ q b h. c.sources-sources.ensures.within q b (ap (λ ys. get_or ys q None) (sym s) ∙ h))
-      (λ q l. subst (λ ys. IsSource c.args.alphabet.now w c.args.a.0 q (get_or ys q None)) (sym s) (c.sources-sources.ensures.sources w given q l))
+      (λ q b h. c.set_sources.ensures.within q b (ap (λ ys. get_or ys q None) (sym s) ∙ h))
+      (λ q l. subst (λ ys. IsSource c.args.alphabet.now w c.args.a.0 q (get_or ys q None)) (sym s) (c.set_sources.ensures.sources w given q l))
 
   -- the vector holds what was written
   held : (v : Vec EventId Global) (level : Level) (old new : List EventId) → v.items ≡ items_of level c.into.inside → old ≡ items_of level c.into.inside → length new ≡ length old → (with_items v new).items ≡ new

@@ -15,7 +15,7 @@ taken-below : (c : After-first_unmarked) (k : ℕ) → k < c.first_unmarked.resu
 taken-below c k l h =
     let marked = λ (j : ℕ). get_or c.as_slice.result.now j false in
     let value = c.first_unmarked.ensures.value in
-    sym (c.taken_labels-taken.ensures.marks k h) ∙ sym (ap (λ m. get_or m k false) c.as_slice.ensures)
+    sym (c.mark_labels.ensures.marks k h) ∙ sym (ap (λ m. get_or m k false) c.as_slice.ensures)
     ∙ not-false (marked k) (least-below (λ j. not (marked j)) (length c.as_slice.result.now) k (omega arith))
 
 -- if all were, there would be more numbers than there are
@@ -33,11 +33,11 @@ returns-clause-bounded c =
 pub returns-clause-free : goal.returns-clause-free
 returns-clause-free c =
     let b = returns-clause-bounded c in
-    let room = c.taken_labels-taken.ensures.room in
+    let room = c.mark_labels.ensures.room in
     let long = ap length c.as_slice.ensures in
     let marked = λ (j : ℕ). get_or c.as_slice.result.now j false in
     let value = c.first_unmarked.ensures.value in
-    sym (c.taken_labels-taken.ensures.marks c.first_unmarked.result b) ∙ sym (ap (λ m. get_or m c.first_unmarked.result false) c.as_slice.ensures)
+    sym (c.mark_labels.ensures.marks c.first_unmarked.result b) ∙ sym (ap (λ m. get_or m c.first_unmarked.result false) c.as_slice.ensures)
     ∙ not-true (marked c.first_unmarked.result)
     (subst (λ j. not (marked j) ≡ true) (sym value) (least-true (λ j. not (marked j)) (length c.as_slice.result.now) (omega arith)))
 

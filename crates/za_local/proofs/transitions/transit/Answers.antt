@@ -15,10 +15,10 @@ use Rattle.za_local.proofs.transitions.transit.Goals.{After-gossips, After-advan
 alphabet : (c : After-gossips) → c.alphabet-alphabet.result.now ≡ c.args.closed.now.alphabet
 alphabet c = c.alphabet-alphabet.ensures ∙ ap (λ (d : CompleteDfa). d.alphabet) c.dfa.ensures.value
 
-pub masks_of-masks-requires-clause-rows : goal.masks_of-masks-requires-clause-rows
-masks_of-masks-requires-clause-rows c = (
+pub set_masks-requires-clause-rows : goal.set_masks-requires-clause-rows
+set_masks-requires-clause-rows c = (
   c.requires.locals.0,
-  rows-given c.args.closed.now c.alphabet-alphabet.result.now (alphabet c) (Some c.args.a) c.args.bench.now.locals c.gossips.result.now c.gossips.ensures
+  rows-given c.args.closed.now c.alphabet-alphabet.result.now (alphabet (goal.at.set_masks-requires-clause-rows c).After-gossips) (Some c.args.a) c.args.bench.now.locals c.gossips.result.now c.gossips.ensures
       c.requires.locals.0 c.requires.locals.1,
 )
 
@@ -29,8 +29,8 @@ advance-requires-clause-given c =
       c.requires.locals.0,
       residues-given d c.alphabet-alphabet.result.now same (Some c.args.a) c.args.bench.now.locals c.residues.result.now c.residues.ensures c.requires.locals.0
           c.requires.locals.1,
-      masks-given d c.alphabet-alphabet.result.now same (Some c.args.a) c.args.bench.now.locals c.gossips.result.now c.gossips.ensures c.masks_of-masks.result
-          c.masks_of-masks.ensures.masks c.requires.locals.0
+      masks-given d c.alphabet-alphabet.result.now same (Some c.args.a) c.args.bench.now.locals c.gossips.result.now c.gossips.ensures c.set_masks.new.masks
+          c.set_masks.ensures.masks c.requires.locals.0
           c.requires.locals.1,
     )
 
@@ -68,13 +68,13 @@ written c w given x h =
     same-locals (record_of c) (local_after d (w ++ c.args.a.0 ∷ []) x) rows
     (c.advance.ensures w
     (residues-given d al same (Some c.args.a) locals c.residues.result.now c.residues.ensures w given)
-    (masks-given d al same (Some c.args.a) locals c.gossips.result.now c.gossips.ensures c.masks_of-masks.result c.masks_of-masks.ensures.masks w given) x h)
+    (masks-given d al same (Some c.args.a) locals c.gossips.result.now c.gossips.ensures c.set_masks.new.masks c.set_masks.ensures.masks w given) x h)
 
 -- it is for the processes and states of the automaton
 shape : (c : After-advance-2) → HasShape c.args.closed.now.alphabet.processes c.args.closed.now.states (record_of c)
 shape c =
     let d = c.args.closed.now in
-    let whole = subst IsDistributed (alphabet (goal.at.After-advance-2 c).After-gossips) c.masks_of-masks.ensures.whole in
+    let whole = subst IsDistributed (alphabet (goal.at.After-advance-2 c).After-gossips) c.set_masks.ensures.whole in
     let p = whole.located.some c.args.a.0 c.requires.letter in
     let w = c.requires.locals.0 in
     subst (HasShape d.alphabet.processes d.states) (sym (written c w c.requires.locals.1 p.0 p.1)) (shape-after d (w ++ c.args.a.0 ∷ []) p.0)

@@ -8,10 +8,10 @@ use Rattle.za_local.proofs.transitions.verdict.Goals.{After-gossips}
 alphabet : (c : After-gossips) → c.alphabet.result.now ≡ c.args.closed.now.alphabet
 alphabet c = c.alphabet.ensures ∙ ap (λ (d : CompleteDfa). d.alphabet) c.dfa.ensures.value
 
-pub masks_of-masks-requires-clause-rows : goal.masks_of-masks-requires-clause-rows
-masks_of-masks-requires-clause-rows c = (
+pub set_masks-requires-clause-rows : goal.set_masks-requires-clause-rows
+set_masks-requires-clause-rows c = (
   c.requires.0,
-  rows-given c.args.closed.now c.alphabet.result.now (alphabet c) None c.args.bench.now.locals
+  rows-given c.args.closed.now c.alphabet.result.now (alphabet (goal.at.set_masks-requires-clause-rows c).After-gossips) None c.args.bench.now.locals
       c.gossips.result.now c.gossips.ensures c.requires.0 c.requires.1,
 )
 
@@ -21,8 +21,8 @@ join_all-requires c =
     let same = alphabet (goal.at.join_all-requires c).After-gossips in (
       c.requires.0,
       residues-given d c.alphabet.result.now same None c.args.bench.now.locals c.residues.result.now c.residues.ensures c.requires.0 c.requires.1,
-      masks-given d c.alphabet.result.now same None c.args.bench.now.locals c.gossips.result.now c.gossips.ensures c.masks_of-masks.result
-          c.masks_of-masks.ensures.masks c.requires.0 c.requires.1,
+      masks-given d c.alphabet.result.now same None c.args.bench.now.locals c.gossips.result.now c.gossips.ensures c.set_masks.new.masks
+          c.set_masks.ensures.masks c.requires.0 c.requires.1,
     )
 
 pub returns : goal.returns
@@ -31,5 +31,5 @@ returns c = λ w given.
     let same = alphabet (goal.at.returns c).After-gossips in
     c.join_all.ensures w
     (residues-given d c.alphabet.result.now same None c.args.bench.now.locals c.residues.result.now c.residues.ensures w given)
-    (masks-given d c.alphabet.result.now same None c.args.bench.now.locals c.gossips.result.now c.gossips.ensures c.masks_of-masks.result
-    c.masks_of-masks.ensures.masks w given)
+    (masks-given d c.alphabet.result.now same None c.args.bench.now.locals c.gossips.result.now c.gossips.ensures c.set_masks.new.masks
+    c.set_masks.ensures.masks w given)

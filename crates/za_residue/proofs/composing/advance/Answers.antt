@@ -13,11 +13,11 @@ use Rattle.za_residue.specs.Private.Turns.{AreOmitted}
 use Rattle.za_residue.specs.Private.Written.{AreGiven, AreWritten}
 use Rattle.za_residue.proofs.Written.{same-functions, few-inputs, written-all, written-below}
 use Rattle.za_residue.proofs.composing.advance.Goals as goal
-use Rattle.za_residue.proofs.composing.advance.Goals.{After-column-steps, After-write_sets}
+use Rattle.za_residue.proofs.composing.advance.Goals.{After-set_column, After-write_sets}
 
 pub first_omitted-omitted-requires : goal.first_omitted-omitted-requires
 first_omitted-omitted-requires c =
-    let whole : IsComplete c.args.closed.now = c.column-steps.ensures.whole in
+    let whole : IsComplete c.args.closed.now = c.set_column.ensures.whole in
     let few = whole.distributed.few_processes in
     let given : AreGiven c.args.closed.now c.args.a.0 c.args.inputs.now c.args.masks.now c.requires.given.0 =
     record { residues = c.requires.given.1; shared = c.requires.given.2 } in
@@ -61,7 +61,7 @@ pub invariant_of-into : goal.invariant_of-into
 invariant_of-into c =
     let d = c.args.closed.now in
     let b = (goal.at.invariant_of-into c).After-write_sets in
-    let whole : IsComplete d = c.column-steps.ensures.whole in
+    let whole : IsComplete d = c.set_column.ensures.whole in
     let states : c.into.inside.states ≡ d.states = ap (λ (f : Functions). f.states) c.into.view_is ∙ c.requires.states in
     let same = items b in
     record {
@@ -80,7 +80,7 @@ pub returns : goal.returns
 returns c = λ w residues shared x h.
     let d = c.args.closed.now in
     let b = (goal.at.returns c).After-write_sets in
-    let whole : IsComplete d = c.column-steps.ensures.whole in
+    let whole : IsComplete d = c.set_column.ensures.whole in
     let processes : c.into.inside.processes ≡ d.alphabet.processes = ap (λ (f : Functions). f.processes) c.into.view_is ∙ c.requires.processes in
     let states : c.into.inside.states ≡ d.states = ap (λ (f : Functions). f.states) c.into.view_is ∙ c.requires.states in
     same-functions

@@ -125,10 +125,10 @@ returns-then-has t c =
 pub copy_from_slice-requires : goal.copy_from_slice-requires
 copy_from_slice-requires t c = let l = long t (goal.at.copy_from_slice-requires t c).After-write_sets in l.1 ∙ sym l.0
 
-pub returns-then-are_equal : goal.returns-then-are_equal
-returns-then-are_equal t c =
+pub returns-then-join_sets : goal.returns-then-join_sets
+returns-then-join_sets t c =
     let d = c.args.closed.now in
-    let b = (goal.at.returns-then-are_equal t c).After-states-states in
+    let b = (goal.at.returns-then-join_sets t c).After-states-states in
     let set : ℕ → Bool = has (members c.args.set) in
     let r : ℕ = c.args.processes - 1 in
     let low = c.write_sets.new.block in
@@ -136,14 +136,14 @@ returns-then-are_equal t c =
     let le = c.requires.processes in
     let P : List ℕ → Type 0 = λ high. AreWritten d c.args.a.0 c.args.inputs.now c.args.masks.now
     (more d (whole t b) c.dfa-dfa.ensures.diamonds c.args.a.0 c.requires.letter c.args.inputs.now c.args.masks.now set r) (2 ^ r) high in
-    both t (goal.at.returns-then-are_equal t c).After-write_sets c.copy_from_slice.new.self
+    both t (goal.at.returns-then-join_sets t c).After-write_sets c.copy_from_slice.new.self
     (subst P (sym c.copy_from_slice.ensures.after)
     (written-copied d (whole t b) c.dfa-dfa.ensures.diamonds c.args.a.0 c.requires.letter c.args.inputs.now c.args.masks.now set r low (omega arith)
-    (sym (part t (goal.at.returns-then-are_equal t c).After-has) ∙ c.if-has.false)
+    (sym (part t (goal.at.returns-then-join_sets t c).After-has) ∙ c.if-has.false)
     (λ i y l under.
     sym (c.requires.omitted.members i y l)
-    ∙ ap (λ o. has (members o) y) (sym (c.are_equal.ensures c.if-are_equal.true i l))
-    ∙ c.joined_sets-more.ensures.members i y l ∙ or_right _ (is_under c.args.masks.now i r y) under)
+    ∙ ap (λ o. has (members o) y) (sym (c.join_sets.ensures.same c.if-join_sets.true i l))
+    ∙ c.join_sets.ensures.members i y l ∙ or_right _ (is_under c.args.masks.now i r y) under)
     c.write_sets.ensures))
 
 pub write_sets-requires-2 : goal.write_sets-requires-2
@@ -169,9 +169,9 @@ write_sets-requires-2 t c =
                     (sym (part t (goal.at.write_sets-requires-2 t c).After-has) ∙ c.if-has.false) c.with.ensures.joined,
                 (
                   more-omitted c.args.masks.now d.alphabet.processes (has (members c.args.set)) (has (members c.with.result)) r (length c.args.inputs.now)
-                      c.args.omitted.now c.joined_sets-more.result (omega arith)
-                      c.with.ensures.joined c.requires.omitted c.joined_sets-more.ensures.room c.joined_sets-more.ensures.small
-                      c.joined_sets-more.ensures.members,
+                      c.args.omitted.now c.join_sets.new.joined (omega arith)
+                      c.with.ensures.joined c.requires.omitted c.join_sets.ensures.room c.join_sets.ensures.small
+                      c.join_sets.ensures.members,
                   (long t (goal.at.write_sets-requires-2 t c).After-write_sets).1,
                 ),
               ),

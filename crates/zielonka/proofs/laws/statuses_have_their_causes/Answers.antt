@@ -1,4 +1,4 @@
-use Rattle.zielonka.proofs.Causes.{usage, words_decide, not_built, words_decide_not_built, read_fault, write_fault, counts, too_long, too_many_decide, too_many_complete, no_memory, all_read, known, completes}
+use Rattle.zielonka.proofs.Causes.{usage, words_decide, not_built, words_decide_not_built, words_decide_job, job_completes, read_fault, write_fault, counts, too_long, too_many_decide, too_many_complete, no_memory, all_read, known, completes}
 use Rattle.zielonka.proofs.laws.statuses_have_their_causes.Goals as goal
 
 pub returns-clause-usage : goal.returns-clause-usage
@@ -12,6 +12,12 @@ returns-clause-not_built c = not_built
 
 pub returns-clause-words_not_built : goal.returns-clause-words_not_built
 returns-clause-words_not_built c = words_decide_not_built
+
+pub returns-clause-words_job : goal.returns-clause-words_job
+returns-clause-words_job c = words_decide_job
+
+pub returns-clause-job_completes : goal.returns-clause-job_completes
+returns-clause-job_completes c = job_completes
 
 pub returns-clause-read_fault : goal.returns-clause-read_fault
 returns-clause-read_fault c = read_fault

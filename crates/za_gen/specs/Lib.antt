@@ -1,0 +1,5 @@
+pub mod Limits
+pub mod Drawn
+pub mod Generated
+pub mod Laws
+pub mod Private
