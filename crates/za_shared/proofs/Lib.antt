@@ -1,0 +1,14 @@
+pub mod Shelves
+pub mod Named
+pub mod Giving
+pub mod LineLists
+pub mod Carrying
+pub mod Steps
+pub mod Vectors
+pub mod Locals
+pub mod Adopting
+pub mod Remembering
+pub mod Firing
+pub mod Openings
+pub mod Entering
+pub mod Placing

@@ -1,0 +1,3 @@
+pub mod Holders
+pub mod Records
+pub mod Private

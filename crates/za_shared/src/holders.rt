@@ -1,0 +1,115 @@
+//! Holders of records: who begins to hold one, and who lets it go.
+
+ghost use Rattle.std.specs.Prelude.{◌≡◌, ◌≢◌, ◌<◌, ◌≤◌, ◌+◌, ◌^◌, ◌⊎◌, ℕ, IsTrue, MatchBool, true, false};
+ghost use Rattle.std.specs.Prelude.{length, take, slice_index, vec_capacity};
+ghost use Rattle.za_alpha.specs.Words.{has};
+ghost use Rattle.za_records.specs.Shelf.{count, live};
+ghost use Rattle.za_shared.specs.Holders.{is_named};
+ghost use Rattle.za_shared.specs.Private.Steps.{one, named, named_before, named_by, HaveMore, HaveFewer};
+
+use za_cache::Kept;
+use za_local::Local;
+use za_records::{Key, Shelf};
+
+/// One holder more.
+pub(crate) fn hold(shelf: &mut Shelf<Local>, key: u32)
+    requires live { 0 < count shelf.old key }
+    requires few { count shelf.old key + 1 < 2 ^ 32 }
+    ensures { HaveMore shelf.old shelf.new (one key) }
+{
+    shelf.hold(Key(key), 1);
+}
+
+/// One holder fewer. A record that has no holder is spare from then on.
+pub(crate) fn let_go(shelf: &mut Shelf<Local>, spares: &mut Vec<Local>, key: u32)
+    requires live { 0 < count shelf.old key }
+    requires room { live shelf.old + length spares.old.items ≤ vec_capacity spares.old }
+    ensures fewer { HaveFewer shelf.old shelf.new spares.old.items spares.new.items (one key) }
+    ensures capacity { vec_capacity spares.new ≡ vec_capacity spares.old }
+{
+    if let Some(spare) = shelf.release(Key(key)) {
+        spares.push_reserved(spare);
+    }
+}
+
+/// Whether the key at place `i` isn't the output, and stands at no place before it.
+fn is_new(keys: &[u32], i: usize, output: u32) -> bool
+    requires { i < length keys.now }
+    ensures { MatchBool result
+        ((slice_index keys.now i ≢ output) × (has (take i keys.now) (slice_index keys.now i) ≡ false))
+        ((slice_index keys.now i ≡ output) ⊎ (has (take i keys.now) (slice_index keys.now i) ≡ true)) }
+{
+    keys[i] != output && !keys[..i].contains(&keys[i])
+}
+
+/// A line is a holder of each record that it names, once however often it names it.
+pub(crate) fn hold_line(shelf: &mut Shelf<Local>, inputs: &[u32], output: u32)
+    requires live { (k : ℕ) → IsTrue (is_named inputs.now output k) → 0 < count shelf.old k }
+    requires few { (k : ℕ) → count shelf.old k + 1 < 2 ^ 32 }
+    ensures { HaveMore shelf.old shelf.new (named inputs.now output) }
+{
+    hold_inputs(shelf, inputs, output);
+    hold(shelf, output);
+}
+
+/// The part of its inputs that aren't the output.
+fn hold_inputs(shelf: &mut Shelf<Local>, inputs: &[u32], output: u32)
+    requires live { (k : ℕ) → IsTrue (has inputs.now k) → 0 < count shelf.old k }
+    requires few { (k : ℕ) → count shelf.old k + 1 < 2 ^ 32 }
+    ensures { HaveMore shelf.old shelf.new (named_before inputs.now output (length inputs.now)) }
+{
+    for i in 0..inputs.len() {
+        if is_new(inputs, i, output) {
+            hold(shelf, inputs[i]);
+        }
+    }
+}
+
+/// A line lets go of each record that it names.
+pub(crate) fn let_go_line(
+    shelf: &mut Shelf<Local>,
+    spares: &mut Vec<Local>,
+    inputs: &[u32],
+    output: u32,
+)
+    requires live { (k : ℕ) → IsTrue (is_named inputs.now output k) → 0 < count shelf.old k }
+    requires room { live shelf.old + length spares.old.items ≤ vec_capacity spares.old }
+    ensures fewer { HaveFewer shelf.old shelf.new spares.old.items spares.new.items (named inputs.now output) }
+    ensures capacity { vec_capacity spares.new ≡ vec_capacity spares.old }
+{
+    let_go_inputs(shelf, spares, inputs, output);
+    let_go(shelf, spares, output);
+}
+
+/// The part of its inputs that aren't the output.
+fn let_go_inputs(shelf: &mut Shelf<Local>, spares: &mut Vec<Local>, inputs: &[u32], output: u32)
+    requires live { (k : ℕ) → IsTrue (has inputs.now k) → 0 < count shelf.old k }
+    requires room { live shelf.old + length spares.old.items ≤ vec_capacity spares.old }
+    ensures fewer { HaveFewer shelf.old shelf.new spares.old.items spares.new.items
+        (named_before inputs.now output (length inputs.now)) }
+    ensures capacity { vec_capacity spares.new ≡ vec_capacity spares.old }
+{
+    for i in 0..inputs.len() {
+        if is_new(inputs, i, output) {
+            let_go(shelf, spares, inputs[i]);
+        }
+    }
+}
+
+/// A line that rows hand back lets go of what it names.
+pub(crate) fn let_go_kept(shelf: &mut Shelf<Local>, spares: &mut Vec<Local>, kept: Kept)
+    requires live { (k : ℕ) → 0 < named_by kept k → 0 < count shelf.old k }
+    requires room { live shelf.old + length spares.old.items ≤ vec_capacity spares.old }
+    ensures fewer { HaveFewer shelf.old shelf.new spares.old.items spares.new.items (named_by kept) }
+    ensures capacity { vec_capacity spares.new ≡ vec_capacity spares.old }
+{
+    match kept {
+        Kept::Stored => (),
+        Kept::Replaced(line) => {
+            let_go_line(shelf, spares, line.inputs.as_slice(), line.output);
+        }
+        Kept::Refused(line) => {
+            let_go_line(shelf, spares, line.inputs.as_slice(), line.output);
+        }
+    }
+}

@@ -1,0 +1,388 @@
+//! The local states of all processes, and how letters change them.
+
+ghost use Rattle.std.specs.Prelude.{◌≡◌, ◌<◌, ◌≤◌, ◌+◌, ℕ, List, [], ◌∷◌, Some, None, IsTrue, MatchBool, IfOk};
+ghost use Rattle.std.specs.Prelude.{length, map, slice_index};
+ghost use Rattle.std.specs.Map.{lookup};
+ghost use Rattle.lru.specs.LruCache.{promoted};
+ghost use Rattle.za_alpha.specs.Limits.{most_processes};
+ghost use Rattle.za_alpha.specs.Words.{has};
+ghost use Rattle.za_alpha.specs.Procs.{members};
+ghost use Rattle.za_alpha.specs.Alphabet.{loc_of};
+ghost use Rattle.za_dfa.specs.Automata.{walk};
+ghost use Rattle.za_dfa.specs.Tables.{step_of};
+ghost use Rattle.za_records.specs.Shelf.{count, live};
+ghost use Rattle.za_local.specs.Locals.{HasShape, local_after, AreLocalsAfter, AreAllLocalsAfter};
+ghost use Rattle.za_cache.specs.Lines.{is_key};
+ghost use Rattle.za_shared.specs.Holders.{value, values_at};
+ghost use Rattle.za_shared.specs.Records.{bound, locals_of, AreRecords, AreOpened, AreOfAWord};
+ghost use Rattle.za_shared.specs.Records.{IsTransition, IsRemembered, HasFired};
+ghost use Rattle.za_shared.specs.Private.Steps.{one, given, last_of, HaveMore, HasAdopted, HasEntered, HasObtained};
+
+use crate::holders::{hold, hold_line, let_go, let_go_kept};
+use crate::opening::{openings, rows_for};
+use crate::seats::{are_on, gather, gather_all, give, keys_of};
+use std::alloc::Global;
+use std::marker::Model;
+use za_alpha::{Letter, OutOfMemory, Procs};
+use za_cache::Rows;
+use za_dfa::Closed;
+use za_local::{Bench, Local, opening, transit, verdict};
+use za_records::{Key, Shelf};
+
+/// The local states of all processes of an automaton, as counted records. The holders of a record are
+/// the processes whose local state it is and the cached transitions that name it. Equal local states
+/// are one record, and one that nobody holds is used again.
+#[derive(Drop)]
+pub struct SharedLocals {
+    closed: Closed,
+    shelf: Shelf<Local>,
+    spares: Vec<Local>,
+    /// The key that the call in progress holds: none between two calls.
+    own: Option<u32>,
+    keys: Vec<u32>,
+    rows: Option<Rows>,
+    bench: Bench,
+}
+
+impl Model for SharedLocals {
+    ghost use Rattle.za_shared.specs.Records as spec;
+
+    ghost Value = { spec.Records };
+
+    ghost use Rattle.za_shared.specs.Private.Inside.{records_in, AreRecordsInside};
+
+    ghost view = { records_in };
+
+    ghost invariant = { AreRecordsInside };
+}
+
+impl SharedLocals {
+    /// All processes share the opening local state, and up to `cache` transitions are kept. All memory
+    /// is taken here, but what lines of the cache ask for. Want of memory is the one free answer.
+    pub fn open(alloc: Global, closed: Closed, cache: u8) -> Result<SharedLocals, OutOfMemory>
+        ensures { IfOk result (λ r. AreOpened closed cache r) }
+    {
+        let _states = closed.dfa().states();
+        let n = closed.dfa().alphabet().processes();
+        let bound = n + 1 + (n + 1) * cache as usize;
+        let mut shelf = Shelf::new(alloc, bound)?;
+        let spares = openings(alloc, &closed, bound - 1)?;
+        let key = shelf.put(opening(alloc, &closed)?, n as u32);
+        let keys = vec![in alloc; key.0; n]?;
+        let rows = rows_for(alloc, cache)?;
+        let bench = Bench::new(alloc, &closed)?;
+        Ok(SharedLocals {
+            closed,
+            shelf,
+            spares,
+            own: None,
+            keys,
+            rows,
+            bench,
+        })
+    }
+
+    /// The automaton.
+    pub fn closed(&self) -> &Closed
+        ensures value { result.now ≡ self.now.dfa }
+        ensures records { AreRecords self.now }
+    {
+        &self.closed
+    }
+
+    /// How many records are live.
+    pub fn live(&self) -> usize
+        ensures value { result ≡ live self.now.shelf }
+        ensures few { result ≤ bound self.now.dfa.alphabet.processes self.now.cache }
+    {
+        self.shelf.live()
+    }
+
+    /// How many records there may be: one for each process and one more, and as many again for each
+    /// line of the cache.
+    pub fn bound(&self) -> usize
+        ensures { result ≡ bound self.now.dfa.alphabet.processes self.now.cache }
+    {
+        self.shelf.capacity()
+    }
+
+    /// The local state of a process.
+    pub fn local(&self, p: usize) -> &Local
+        requires { p < self.now.dfa.alphabet.processes }
+        ensures value { result.now ≡ value self.now.shelf (slice_index self.now.keys p) }
+        ensures after { (w : List ℕ) → AreAllLocalsAfter self.now.dfa w (locals_of self.now) →
+            result.now ≡ local_after self.now.dfa w p }
+    {
+        self.shelf.get(Key(self.keys[p]))
+    }
+
+    /// Puts copies of these processes' local states onto a bench, in rising order, in place of what it
+    /// had. The bench is for as many processes and states. It takes no memory.
+    pub fn gather_into(&self, participants: Procs, bench: &mut Bench)
+        requires processes { bench.old.processes ≡ self.now.dfa.alphabet.processes }
+        requires states { bench.old.states ≡ self.now.dfa.states }
+        requires within { (p : ℕ) → IsTrue (has (members participants) p) → p < self.now.dfa.alphabet.processes }
+        ensures bench { bench.new ≡
+            record bench.old { locals = values_at self.now.shelf self.now.keys (members participants) } }
+        ensures after { (w : List ℕ) → AreAllLocalsAfter self.now.dfa w (locals_of self.now) →
+            AreLocalsAfter self.now.dfa w (members participants) bench.new.locals }
+    {
+        gather(&self.shelf, &self.keys, participants, bench);
+    }
+
+    /// Where the word leads from the start after which the processes have their local states. It reads
+    /// these alone, and leaves all as it was. It takes no memory.
+    pub fn verdict(&mut self) -> u8
+        requires { AreOfAWord self.old }
+        ensures state { (w : List ℕ) → AreAllLocalsAfter self.old.dfa w (locals_of self.old) →
+            result ≡ walk (step_of self.old.dfa) self.old.dfa.start w }
+        ensures rest { self.new ≡ self.old }
+    {
+        gather_all(&self.shelf, &self.keys, &mut self.bench);
+        verdict(&self.closed, &self.bench)
+    }
+
+    /// Looks the transition up. Where there is a line, the call holds its output from then on, and
+    /// the line goes to the front.
+    fn recall(&mut self, a: Letter, inputs: &[u32]) -> bool
+        requires few { length inputs.now ≤ most_processes }
+        requires free { self.old.own ≡ [] }
+        ensures { MatchBool result
+            ((key : ℕ) × (lookup (is_key a.0 inputs.now) self.old.lines ≡ Some key) ×
+            HaveMore self.old.shelf self.new.shelf (one key) ×
+            (self.new ≡ record self.old {
+              shelf = self.new.shelf;
+              own = key ∷ [];
+              lines = promoted (is_key a.0 inputs.now) self.old.lines;
+            }))
+            ((lookup (is_key a.0 inputs.now) self.old.lines ≡ None) × (self.new ≡ self.old)) }
+    {
+        let Some(rows) = &mut self.rows else {
+            return false;
+        };
+        let Some(key) = rows.find(a.0, inputs) else {
+            return false;
+        };
+        hold(&mut self.shelf, key);
+        self.own = Some(key);
+        true
+    }
+
+    /// Computes the transition into the last spare record. It copies the participants' local states
+    /// alone, onto the bench.
+    fn compute(&mut self, a: Letter, participants: Procs)
+        requires letter { a.0 < length self.old.dfa.alphabet.letters }
+        requires participants { members participants ≡ loc_of self.old.dfa.alphabet a.0 }
+        requires free { self.old.own ≡ [] }
+        requires locals { AreOfAWord self.old }
+        ensures rest { self.new ≡ record self.old { spares = self.new.spares } }
+        ensures some { 0 < length self.new.spares }
+        ensures transition { IsTransition self.old.dfa a.0
+            (values_at self.old.shelf self.old.keys (members participants)) (last_of self.new.spares) }
+    {
+        let _live = self.shelf.live();
+        gather(&self.shelf, &self.keys, participants, &mut self.bench);
+        let last = self.spares.len() - 1;
+        transit(&self.closed, a, &self.bench, &mut self.spares[last]);
+    }
+
+    /// Copies a local state into the last spare record.
+    fn copy_in(&mut self, made: &Local)
+        requires free { self.old.own ≡ [] }
+        requires shape { HasShape self.old.dfa.alphabet.processes self.old.dfa.states made.now }
+        ensures rest { self.new ≡ record self.old { spares = self.new.spares } }
+        ensures some { 0 < length self.new.spares }
+        ensures copied { last_of self.new.spares ≡ made.now }
+    {
+        let _live = self.shelf.live();
+        let last = self.spares.len() - 1;
+        self.spares[last].copy_from(made);
+    }
+
+    /// The transition stands in the last spare record from then on: what was made, where the bench has
+    /// the participants' local states, and else it is computed now.
+    fn take_or_compute(&mut self, a: Letter, participants: Procs, bench: &Bench, made: &Local)
+        requires letter { a.0 < length self.old.dfa.alphabet.letters }
+        requires participants { members participants ≡ loc_of self.old.dfa.alphabet a.0 }
+        requires free { self.old.own ≡ [] }
+        requires locals { AreOfAWord self.old }
+        requires processes { bench.now.processes ≡ self.old.dfa.alphabet.processes }
+        requires states { bench.now.states ≡ self.old.dfa.states }
+        requires made { IsTransition self.old.dfa a.0 bench.now.locals made.now }
+        ensures rest { self.new ≡ record self.old { spares = self.new.spares } }
+        ensures some { 0 < length self.new.spares }
+        ensures transition { IsTransition self.old.dfa a.0
+            (values_at self.old.shelf self.old.keys (members participants)) (last_of self.new.spares) }
+    {
+        if are_on(&self.shelf, &self.keys, participants, bench) {
+            self.copy_in(made);
+            return;
+        }
+        self.compute(a, participants);
+    }
+
+    /// The call holds a record that equals the last spare one from then on: one that is live, or the
+    /// spare itself. The search takes each live record, of which there are at most `bound`, up to the
+    /// first difference from the spare. Primary entries come first, in which different local states
+    /// mostly differ: so it reads a few numbers of each.
+    fn adopt(&mut self)
+        requires free { self.old.own ≡ [] }
+        requires some { 0 < length self.old.spares }
+        ensures { HasAdopted self.old self.new }
+    {
+        let _live = self.shelf.live();
+        let last = self.spares.len() - 1;
+        if let Some(key) = self.shelf.same(&self.spares[last]) {
+            hold(&mut self.shelf, key.0);
+            self.own = Some(key.0);
+            return;
+        }
+        if let Some(made) = self.spares.pop() {
+            let key = self.shelf.put(made, 1);
+            self.own = Some(key.0);
+        }
+    }
+
+    /// Keeps the line of a transition whose output the call holds.
+    fn remember(&mut self, a: Letter, inputs: &[u32], output: u32)
+        requires few { length inputs.now ≤ self.old.dfa.alphabet.processes }
+        requires held { self.old.own ≡ output ∷ [] }
+        requires live { (k : ℕ) → IsTrue (has inputs.now k) → 0 < count self.old.shelf k }
+        requires absent { lookup (is_key a.0 inputs.now) self.old.lines ≡ None }
+        requires transition { IsTransition self.old.dfa a.0
+            (map (value self.old.shelf) inputs.now) (value self.old.shelf output) }
+        ensures rest { self.new ≡
+            record self.old { shelf = self.new.shelf; lines = self.new.lines; spares = self.new.spares } }
+        ensures values { (k : ℕ) → 0 < count self.new.shelf k → value self.new.shelf k ≡ value self.old.shelf k }
+        ensures lines { IsRemembered self.old.cache self.old.lines self.new.lines a.0 inputs.now output }
+    {
+        let Some(rows) = &mut self.rows else {
+            return;
+        };
+        hold_line(&mut self.shelf, inputs, output);
+        let kept = rows.keep(a.0, inputs, output);
+        let_go_kept(&mut self.shelf, &mut self.spares, kept);
+    }
+
+    /// The call holds a record that equals the last spare one, which is the transition of the inputs,
+    /// and its line is kept.
+    fn enter(&mut self, a: Letter, inputs: &[u32])
+        requires few { length inputs.now ≤ self.old.dfa.alphabet.processes }
+        requires free { self.old.own ≡ [] }
+        requires some { 0 < length self.old.spares }
+        requires live { (k : ℕ) → IsTrue (has inputs.now k) → 0 < count self.old.shelf k }
+        requires absent { lookup (is_key a.0 inputs.now) self.old.lines ≡ None }
+        requires transition { IsTransition self.old.dfa a.0
+            (map (value self.old.shelf) inputs.now) (last_of self.old.spares) }
+        ensures entered { HasEntered self.old self.new a.0 inputs.now }
+        ensures records { AreRecords self.new }
+    {
+        self.adopt();
+        if let Some(output) = self.own {
+            self.remember(a, inputs, output);
+            let _closed = self.closed();
+        }
+    }
+
+    /// Gives the participants the record that the call holds, which then lets it go.
+    fn hand_over(&mut self, participants: Procs, key: u32)
+        requires held { self.old.own ≡ key ∷ [] }
+        ensures rest { self.new ≡ record self.old {
+          shelf = self.new.shelf;
+          own = [];
+          keys = self.new.keys;
+          spares = self.new.spares;
+        } }
+        ensures keys { (p : ℕ) → slice_index self.new.keys p ≡
+            given (members participants) key (length self.old.keys) self.old.keys p }
+        ensures values { (k : ℕ) → 0 < count self.new.shelf k →
+            (0 < count self.old.shelf k) × (value self.new.shelf k ≡ value self.old.shelf k) }
+    {
+        give(
+            &mut self.shelf,
+            &mut self.spares,
+            &mut self.keys,
+            participants,
+            key,
+        );
+        let_go(&mut self.shelf, &mut self.spares, key);
+        self.own = None;
+    }
+
+    /// The call holds the record of the transition from then on: the output of its line where there is
+    /// one, and else what is computed now.
+    fn obtain(&mut self, a: Letter, participants: Procs)
+        requires letter { a.0 < length self.old.dfa.alphabet.letters }
+        requires participants { members participants ≡ loc_of self.old.dfa.alphabet a.0 }
+        requires free { self.old.own ≡ [] }
+        requires locals { AreOfAWord self.old }
+        ensures obtained { HasObtained self.old self.new a.0 }
+        ensures records { AreRecords self.old }
+    {
+        let inputs = keys_of(*self.keys.allocator(), &self.keys, participants);
+        if self.recall(a, inputs.as_slice()) {
+            return;
+        }
+        self.compute(a, participants);
+        self.enter(a, inputs.as_slice());
+    }
+
+    /// The same, where what was made may be used.
+    fn obtain_made(&mut self, a: Letter, participants: Procs, bench: &Bench, made: &Local)
+        requires letter { a.0 < length self.old.dfa.alphabet.letters }
+        requires participants { members participants ≡ loc_of self.old.dfa.alphabet a.0 }
+        requires free { self.old.own ≡ [] }
+        requires locals { AreOfAWord self.old }
+        requires processes { bench.now.processes ≡ self.old.dfa.alphabet.processes }
+        requires states { bench.now.states ≡ self.old.dfa.states }
+        requires made { IsTransition self.old.dfa a.0 bench.now.locals made.now }
+        ensures obtained { HasObtained self.old self.new a.0 }
+        ensures records { AreRecords self.old }
+    {
+        let inputs = keys_of(*self.keys.allocator(), &self.keys, participants);
+        if self.recall(a, inputs.as_slice()) {
+            return;
+        }
+        self.take_or_compute(a, participants, bench, made);
+        self.enter(a, inputs.as_slice());
+    }
+
+    /// Fires a letter: its participants get one local state, the transition of theirs, and all others
+    /// keep theirs. A line of the cache is used where there is one, and nothing is computed then. It
+    /// takes no memory but for a new line, and is done without one where that is refused.
+    pub fn fire(&mut self, a: Letter, participants: Procs)
+        requires letter { a.0 < length self.old.dfa.alphabet.letters }
+        requires participants { members participants ≡ loc_of self.old.dfa.alphabet a.0 }
+        requires free { self.old.own ≡ [] }
+        requires locals { AreOfAWord self.old }
+        ensures fired { HasFired self.old self.new a.0 }
+        ensures records { AreRecords self.new }
+    {
+        self.obtain(a, participants);
+        if let Some(key) = self.own {
+            self.hand_over(participants, key);
+            let _closed = self.closed();
+        }
+    }
+
+    /// Fires a letter whose transition was computed elsewhere: `made` is the transition of the local
+    /// states on the bench. It is used where these are the participants' local states, and else the
+    /// transition is computed again. All else is as in `fire`.
+    pub fn settle(&mut self, a: Letter, participants: Procs, bench: &Bench, made: &Local)
+        requires letter { a.0 < length self.old.dfa.alphabet.letters }
+        requires participants { members participants ≡ loc_of self.old.dfa.alphabet a.0 }
+        requires free { self.old.own ≡ [] }
+        requires locals { AreOfAWord self.old }
+        requires processes { bench.now.processes ≡ self.old.dfa.alphabet.processes }
+        requires states { bench.now.states ≡ self.old.dfa.states }
+        requires made { IsTransition self.old.dfa a.0 bench.now.locals made.now }
+        ensures fired { HasFired self.old self.new a.0 }
+        ensures records { AreRecords self.new }
+    {
+        self.obtain_made(a, participants, bench, made);
+        if let Some(key) = self.own {
+            self.hand_over(participants, key);
+            let _closed = self.closed();
+        }
+    }
+}

@@ -1,0 +1,12 @@
+pub mod Vectors
+pub mod Entries
+pub mod KnownLabels
+pub mod Keeping
+pub mod Progressing
+pub mod Complete
+pub mod Waiting
+pub mod Beginnings
+pub mod Weaving
+pub mod Firing
+pub mod Endings
+pub mod Cleared

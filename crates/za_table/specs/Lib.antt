@@ -1,0 +1,4 @@
+pub mod Tables
+pub mod Answers
+pub mod Ends
+pub mod Private
