@@ -4,7 +4,7 @@
 Each text is given to the built program with the words `solo`, `check` and `locals`, and status and bytes are
 compared: every example, every text that differs in one byte from a small example (removed, doubled, or changed to
 a space, a tab, a letter or a digit; these with `solo`, and every eleventh with the others), and jobs drawn at
-random, closed and not closed.
+random, closed and not closed. `gen` is compared on some numbers.
 
     checks/compare.py [--long]     --long changes every example, not the small ones alone, and draws 12,000 jobs for 300
 """
@@ -22,6 +22,7 @@ import second_reading  # noqa: E402
 PROGRAM = os.path.join(TOP, "crates", "zla", "out", "zla")
 SMALL = ["two_processes", "two_processes_stuck", "one_first"]
 DRAWN, DRAWN_LONG = 300, 12000
+GENERATED = [0, 1, 7, 4294967295]
 
 
 def changed(text):
@@ -63,7 +64,7 @@ def drawn(number):
 
 def cases(is_long):
     """The words and the texts that are tried."""
-    for name in sorted(glob.glob(os.path.join(TOP, "examples", "*.zla"))):
+    for name in sorted(glob.glob(os.path.join(TOP, "examples", "**", "*.zla"), recursive=True)):
         with open(name, "rb") as file:
             text = file.read()
         for command in second_reading.COMMANDS:
@@ -85,6 +86,14 @@ def main():
         sys.exit("second reading: there is no program; ./zla builds it")
     passed = failed = 0
     statuses = {}
+    for number in GENERATED:
+        run = subprocess.run([PROGRAM, "gen", str(number)], stdin=subprocess.DEVNULL, capture_output=True)
+        if (run.returncode, run.stdout) == (0, second_reading.printed(second_reading.generated(number))):
+            passed += 1
+            statuses[0] = statuses.get(0, 0) + 1
+        else:
+            failed += 1
+            print("gen %d differs" % number)
     for command, text in cases(sys.argv[1:] == ["--long"]):
         wanted = second_reading.answer(command, text)
         run = subprocess.run([PROGRAM, command], input=text, capture_output=True)

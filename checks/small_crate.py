@@ -6,6 +6,7 @@ page says: `rt check`, and `rt must-fail` of its edit. The libraries are built f
 """
 import os
 import re
+import resource
 import shutil
 import subprocess
 import sys
@@ -50,13 +51,18 @@ def main(words):
         commands = [(folder, ["rt", "check"]), (room, ["rt", "must-fail", "runs"])]
         commands += [(folder, ["rt", "test"])] * (words == ["--test"])
         commands.append((folder, ["rt", "fmt"]))
+        took = []
         for at, command in commands:
+            before = resource.getrusage(resource.RUSAGE_CHILDREN)
             run = subprocess.run(command, cwd=at, stdout=subprocess.PIPE, stderr=subprocess.STDOUT, text=True, errors="replace")
             if run.returncode or "formatted" in run.stdout:
                 print(run.stdout, end="")
                 print("small crate: %s FAILED on the %d files of docs/LIBRARY.md" % (" ".join(command), len(files)))
                 return 1
-    print("small crate: passed, %d files" % len(files))
+            after = resource.getrusage(resource.RUSAGE_CHILDREN)
+            seconds = after.ru_utime + after.ru_stime - before.ru_utime - before.ru_stime
+            took.append("%s %d" % (" ".join(command), seconds))
+    print("small crate: passed, %d files; processor seconds: %s" % (len(files), ", ".join(took)))
     return 0
 
 

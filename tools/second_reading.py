@@ -3,7 +3,7 @@ docs/THEOREMS.md and not from the program.
 
 It reads documents by the grammar, and works out the answers of `solo`, `check` and `locals` straight from the
 definitions: languages by words, views by positions, labels by tertiary entries. The repository's checks compare the
-program with it, and the drawings of tools/draw are made from it.
+program with it, `gen` included, and tools/draw, tools/explain and tools/product are made from it.
 """
 import re
 from collections import deque
@@ -15,30 +15,40 @@ NUMBER = re.compile(rb"(0|[1-9][0-9]{0,9})\Z")
 USAGE = b"usage: zla solo|run|check|locals|journal [--cache C], zla audit, zla gen N\n"
 
 
-class Refused(Exception):
-    """The first wrong line of a document, and its first failing test."""
+class Token(bytes):
+    """A token of a line, with the column at which it begins."""
 
-    def __init__(self, line, kind):
-        super().__init__("refused line %d: %s" % (line, kind))
-        self.line, self.kind = line, kind
+    column = 0
 
 
 class Wrong(Exception):
-    """The first failing test of a line."""
+    """The first failing test of a line, and the token that fails it, where it is one."""
+
+    def __init__(self, kind, token=None):
+        super().__init__(kind)
+        self.kind, self.token = kind, token
 
 
-def want(condition, kind):
+class Refused(Exception):
+    """The first wrong line of a document, and its first failing test; what was read before it, and the place there."""
+
+    def __init__(self, line, wrong, job, place):
+        super().__init__("refused line %d: %s" % (line, wrong.kind))
+        self.line, self.kind, self.token, self.job, self.place = line, wrong.kind, wrong.token, job, place
+
+
+def want(condition, kind, token=None):
     if not condition:
-        raise Wrong(kind)
+        raise Wrong(kind, token)
 
 
 def number(word):
-    want(NUMBER.match(word) and int(word) < 2**32, "bad number")
+    want(NUMBER.match(word) and int(word) < 2**32, "bad number", word)
     return int(word)
 
 
 class Job:
-    """What the lines of a document say, gathered line by line."""
+    """What the lines of a document say, gathered line by line, and at which lines it stands."""
 
     def __init__(self):
         self.processes = self.states = self.start = 0
@@ -46,21 +56,26 @@ class Job:
         self.accepting = set()
         self.targets = {}  # (state, letter) to state
         self.scripts = []
+        self.line = 0  # the one that is read
+        self.lines = {}  # first token to the line; letters and rows by themselves
+        self.letter_lines = []
+        self.row_lines = {}
+        self.script_lines = []  # for each process the line of each letter of its script
 
     def letter_of(self, name):
         for a, (other, _) in enumerate(self.letters):
             if other == name:
                 return a
-        raise Wrong("no such letter")
+        raise Wrong("no such letter", name)
 
     def process_of(self, word):
         p = number(word)
-        want(p < self.processes, "no such process")
+        want(p < self.processes, "no such process", word)
         return p
 
     def state_of(self, word):
         q = number(word)
-        want(q < self.states, "no such state")
+        want(q < self.states, "no such state", word)
         return q
 
     def name(self, a):
@@ -93,48 +108,62 @@ def take(job, first, words):
     """The line's own tests in their order; what it says is gathered."""
     if first == b"processes":
         job.processes = number(words[0])
-        want(1 <= job.processes <= MOST_PROCESSES, "processes not in 1 to 6")
+        want(1 <= job.processes <= MOST_PROCESSES, "processes not in 1 to 6", words[0])
         job.scripts = [[] for _ in range(job.processes)]
+        job.script_lines = [[] for _ in range(job.processes)]
     elif first == b"letter":
         want(len(job.letters) < MOST_LETTERS, "more than 32 letters")
-        want(NAME.match(words[0]), "bad name")
-        want(all(words[0] != name for name, _ in job.letters), "name is repeated")
-        want(len(words) > 1, "letter without process")
+        want(NAME.match(words[0]), "bad name", words[0])
+        want(all(words[0] != name for name, _ in job.letters), "name is repeated", words[0])
+        want(len(words) > 1, "letter without process", words[0])
         job.letters.append((words[0], sorted({job.process_of(word) for word in words[1:]})))
+        job.letter_lines.append(job.line)
     elif first == b"states":
         job.states = number(words[0])
-        want(1 <= job.states <= MOST_STATES, "states not in 1 to 32")
+        want(1 <= job.states <= MOST_STATES, "states not in 1 to 32", words[0])
     elif first == b"start":
         job.start = job.state_of(words[0])
     elif first == b"accept":
         job.accepting = {job.state_of(word) for word in words}
     elif first == b"row":
         q, a, r = job.state_of(words[0]), job.letter_of(words[1]), job.state_of(words[2])
-        want(job.targets.get((q, a), r) == r, "two targets")
+        want(job.targets.get((q, a), r) == r, "two targets", words[2])
         job.targets[q, a] = r
+        job.row_lines.setdefault((q, a), job.line)
     elif first == b"script":
         p = job.process_of(words[0])
         for word in words[1:]:
             a = job.letter_of(word)
-            want(p in job.loc(a), "letter not of this process")
-            want(sum(map(len, job.scripts)) < MOST_SCRIPT_LETTERS, "more than 65536 script letters")
+            want(p in job.loc(a), "letter not of this process", word)
+            want(sum(map(len, job.scripts)) < MOST_SCRIPT_LETTERS, "more than 65536 script letters", word)
             job.scripts[p].append(a)
+            job.script_lines[p].append(job.line)
+
+
+def tokens(text):
+    """The tokens of a line."""
+    found = []
+    for match in re.finditer(rb"[^ \t]+", text):
+        found.append(Token(match.group()))
+        found[-1].column = match.start()
+    return found
 
 
 def take_line(job, place, text, whole):
     """One line: the place after it."""
     want(whole, "line is cut")
     want(all(b == 9 or 32 <= b <= 126 for b in text), "bad byte")
-    words = [word for word in re.split(rb"[ \t]+", text) if word]
+    words = tokens(text)
     if not words:
         return place
     if place == 0:
-        want(words == [b"zla", b"1"], "header is not zla 1")
-    want(place < 8, "text after end")
+        want(words == [b"zla", b"1"], "header is not zla 1", words[0])
+    want(place < 8, "text after end", words[0])
     first = words[0]
-    want(first in PLACES[place], "line is out of order")
+    want(first in PLACES[place], "line is out of order", first)
     want(len(words) == EXACTLY[first] if first in EXACTLY else len(words) >= AT_LEAST[first], "wrong number of words")
     take(job, first, words[1:])
+    job.lines[bytes(first)] = job.line
     return PLACES[place][first]
 
 
@@ -144,12 +173,13 @@ def read(text):
     lines = [(piece, True) for piece in pieces[:-1]] + ([(pieces[-1], False)] if pieces[-1] else [])
     job, place = Job(), 0
     for at, (piece, whole) in enumerate(lines):
+        job.line = at + 1
         try:
             place = take_line(job, place, piece, whole)
-        except Wrong as kind:
-            raise Refused(at + 1, str(kind)) from None
+        except Wrong as wrong:
+            raise Refused(job.line, wrong, job, place) from None
     if place < 8:
-        raise Refused(len(lines) + 1, "end is missing")
+        raise Refused(len(lines) + 1, Wrong("end is missing"), job, place)
     return job
 
 
@@ -210,32 +240,55 @@ def apart(dfa, q, r):
     return None
 
 
-def minimal(dfa):
-    """The minimal DFA, its states numbered by their shortlex-least access words."""
-    reached = list(least_words(dfa.start, lambda q, a: dfa.targets[q][a], dfa.letters))
-    leaders = []
-    number_of = {}
-    for q in reached:
-        for i, leader in enumerate(leaders):
-            if apart(dfa, q, leader) is None:
-                number_of[q] = i
+def access_words(dfa):
+    """The shortlex-least word to each state that is reached, in the order of these words."""
+    return least_words(dfa.start, lambda q, a: dfa.targets[q][a], dfa.letters)
+
+
+def classes(dfa):
+    """The states that are reached, those from which the same words are accepted together, by their least access words."""
+    found = []
+    for q in access_words(dfa):
+        for states in found:
+            if apart(dfa, q, states[0]) is None:
+                states.append(q)
                 break
         else:
-            number_of[q] = len(leaders)
-            leaders.append(q)
-    targets = [[number_of[dfa.targets[q][a]] for a in range(dfa.letters)] for q in leaders]
-    return Dfa(dfa.letters, 0, [dfa.accepting[q] for q in leaders], targets)
+            found.append([q])
+    return found
+
+
+def minimal(dfa):
+    """The minimal DFA, its states numbered by their shortlex-least access words."""
+    found = classes(dfa)
+    number_of = {q: i for i, states in enumerate(found) for q in states}
+    targets = [[number_of[dfa.targets[states[0]][a]] for a in range(dfa.letters)] for states in found]
+    return Dfa(dfa.letters, 0, [dfa.accepting[states[0]] for states in found], targets)
+
+
+def accepted_from(dfa, q):
+    """The shortlex-least word that is accepted from a state, or None where there is none."""
+    words = least_words(q, lambda r, a: dfa.targets[r][a], dfa.letters)
+    return next((word for r, word in words.items() if dfa.accepting[r]), None)
+
+
+class Break:
+    """u a b v and u b a v, of which one is accepted, with a and b independent."""
+
+    def __init__(self, before, a, b, after):
+        self.before, self.a, self.b, self.after = before, a, b, after
+        self.left, self.right = before + [a, b] + after, before + [b, a] + after
 
 
 def least_break(job, dfa):
-    """The two words of the least break of the language, or None where it is trace-closed."""
-    for q, u in least_words(dfa.start, lambda x, a: dfa.targets[x][a], dfa.letters).items():
+    """The least break of the language, or None where it is trace-closed."""
+    for q, u in access_words(dfa).items():
         for a in range(dfa.letters):
             for b in range(a + 1, dfa.letters):
                 if job.independent(a, b):
                     v = apart(dfa, dfa.walk(q, [a, b]), dfa.walk(q, [b, a]))
                     if v is not None:
-                        return u + [a, b] + v, u + [b, a] + v
+                        return Break(u, a, b, v)
     return None
 
 
@@ -322,14 +375,48 @@ def check(job, dfa):
     return 0, ["closed", "states %d" % len(dfa.targets), bound(job)]
 
 
-def local_states(job, dfa):
-    word, _ = weave(job)
-    order, n, lines = Order(job, word), len(word), []
+def known(job, dfa, order):
+    """What each process knows after the whole word, a line each."""
+    word, n, lines = order.word, len(order.word), []
     for p in range(job.processes):
         entries = [order.shown(order.primary(n, p, q)) for q in range(job.processes)]
         view = dfa.walk(dfa.start, [word[i] for i in sorted(order.view(n, p))])
         lines.append(" ".join(["p%d" % p] + entries + ["view %d" % view]))
-    return 0, lines
+    return lines
+
+
+def local_states(job, dfa):
+    return 0, known(job, dfa, Order(job, weave(job)[0]))
+
+
+GENERATED_LETTERS = [(b"a", [0]), (b"b", [1]), (b"c", [2]), (b"d", [3])]
+GENERATED_LETTERS += [(b"e", [0, 1]), (b"f", [1, 2]), (b"g", [2, 3]), (b"h", [0, 3])]
+GENERATED_EVENTS = 20000
+
+
+def generated_step(q, name):
+    """Where a letter leads in the table of generated jobs: state 4u + v."""
+    u, v = divmod(q, 4)
+    v = {b"a": (v + 1) % 4, b"b": (v + 3) % 4, b"e": 0}.get(name, v)
+    u = {b"c": 1 - u, b"d": 1 - u, b"g": 0}.get(name, u)
+    return 4 * u + v
+
+
+def generated(number):
+    """The job that a number determines."""
+    job, register = Job(), number
+    job.processes, job.letters, job.states = 4, GENERATED_LETTERS, 8
+    job.scripts = [[] for _ in range(job.processes)]
+    job.targets = {(q, a): generated_step(q, name) for q in range(8) for a, (name, _) in enumerate(job.letters)}
+    q = job.start
+    for _ in range(GENERATED_EVENTS):
+        register = (register * 6364136223846793005 + 1442695040888963407) % 2**64
+        a = (register >> 33) % 8
+        q = job.targets[q, a]
+        for p in job.loc(a):
+            job.scripts[p].append(a)
+    job.accepting = {q}
+    return job
 
 
 COMMANDS = {"solo": solo, "check": check, "locals": local_states}
@@ -348,6 +435,6 @@ def answer(command, text):
     if two is None:
         status, lines = COMMANDS[command](job, dfa)
     else:
-        left, right = (" ".join(job.name(a) for a in word) for word in two)
+        left, right = (" ".join(job.name(a) for a in word) for word in (two.left, two.right))
         status, lines = 5, ["not closed", "left " + left, "right " + right]
     return status, "".join(line + "\n" for line in lines).encode()

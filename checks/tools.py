@@ -1,0 +1,239 @@
+#!/usr/bin/env python3
+"""tools/explain, tools/draw and tools/product over the texts that the second reading is compared on, a text for each
+kind of refusal, and some that are rejected.
+
+    checks/tools.py [--long]     --long takes every example with each of its changes, and 12,000 jobs drawn at random for 300
+
+What is wanted: an explanation begins with the first line of the answer, and names a line for each answer that is no
+accept; each kind of refusal that docs/FORMATS.md lists is met. A chart has in the column of each process the events that
+it takes part in, in their order. A product takes a word exactly if both rules do. The small rules of docs/RULES.md take
+what they say.
+"""
+import os
+import random
+import re
+import sys
+from importlib.machinery import SourceFileLoader
+from importlib.util import module_from_spec, spec_from_loader
+
+TOP = os.path.dirname(os.path.dirname(os.path.abspath(__file__)))
+sys.path[:0] = [os.path.join(TOP, "tools"), os.path.join(TOP, "checks")]
+sys.dont_write_bytecode = True
+import compare  # noqa: E402
+import second_reading  # noqa: E402
+
+
+def script(name):
+    """A script of tools/ as a module."""
+    loader = SourceFileLoader(name, os.path.join(TOP, "tools", name))
+    module = module_from_spec(spec_from_loader(name, loader))
+    loader.exec_module(module)
+    return module
+
+
+explain, draw, product = script("explain"), script("draw"), script("product")
+HEAD = b"zla 1\nprocesses 2\nletter a 0\nletter b 0 1\n"
+JOB = HEAD + b"states 2\nstart 0\naccept 1\nrow 0 a 1\nscript 0 a\nend\n"
+# a text, and what its explanation has to say
+REFUSED = [
+    (JOB.replace(b"\n", b"\r\n"), "carriage return"),
+    (b"\xef\xbb\xbf" + JOB, "byte order mark"),
+    (JOB.decode().encode("utf-16"), "UTF-16"),
+    (JOB.replace(b"letter a", b"letter \xc3\xa4"), "beyond ASCII"),
+    (JOB.replace(b"letter a", b"letter \x07a"), "can't be seen"),
+    (JOB[:-1], "line feed"),
+    (JOB[:-4], "end"),
+    (b"", "wrote nothing"),
+    (JOB + b"zla 1\n", "two jobs in one file"),
+    (b"# a job\n" + JOB, "no comment"),
+    (JOB.replace(b"row 0 a 1", b"row 0 a 1 # begin"), "no comment"),
+    (JOB.replace(b"letter a 0", b"letter a 0 // of one"), "no comment"),
+    (JOB.replace(b"script 0 a", b"script 0 a -- all"), "no comment"),
+    (JOB.replace(b"zla 1", b"zla 2"), "version 1 alone"),
+    (JOB.replace(b"zla 1\n", b""), "header is missing"),
+    (JOB.replace(b"end\n", b"row 1 a 0\nend\n"), "above the first script line"),
+    (JOB.replace(b"accept 1\n", b""), "`accept` line comes before it: it is missing"),
+    (JOB.replace(b"start 0\naccept 1\n", b"accept 1\nstart 0\n"), "it stands too far down, at line 7"),
+    (JOB.replace(b"start 0\n", b"start 0\nletter c 0\n"), "move it above line 5"),
+    (JOB.replace(b"start 0\n", b"start 0\nstart 0\n"), "line 6 has it already"),
+    (JOB.replace(b"script", b"skript"), "misspelled"),
+    (JOB.replace(b"row 0 a 1", b"0 a 1"), "first word is missing"),
+    (JOB.replace(b"row 0 a 1", b"row 0 a"), "a word is missing"),
+    (JOB.replace(b"row 0 a 1", b"row 0 a b 1"), "a row of its own"),
+    (JOB.replace(b"end", b"end job"), "in its line"),
+    (JOB.replace(b"row 0 a 1", b"row a 0 1"), "in another order"),
+    (JOB.replace(b"row 0 a 1", b"row 0 1 a"), "in another order"),
+    (JOB.replace(b"start 0", b"start 00"), "leading 0"),
+    (JOB.replace(b"start 0", b"start -1"), "a sign"),
+    (JOB.replace(b"start 0", b"start 4294967296"), "too large"),
+    (JOB.replace(b"start 0", b"start free"), "states and processes have numbers alone"),
+    (JOB.replace(b"letter b 0 1", b"letter b 0,1"), "a comma or a colon"),
+    (JOB.replace(b"letter a", b"letter lock-0"), "`lock_0` would be one"),
+    (JOB.replace(b"letter a", b"letter 0a"), "begins with a digit"),
+    (JOB.replace(b"letter a", b"letter " + b"a" * 33), "33 signs"),
+    (JOB.replace(b"processes 2", b"processes 7"), "1 to 6 processes"),
+    (JOB.replace(b"states 2", b"states 33"), "1 to 32 states"),
+    (HEAD + b"".join(b"letter l%d 0\n" % i for i in range(31)), "32 letter lines"),
+    (JOB.replace(b"letter b", b"letter a"), "one line that names them all"),
+    (JOB.replace(b"letter a 0", b"letter a"), "after the name"),
+    (JOB.replace(b"letter b 0 1", b"letter b 1 2"), "counted from 0"),
+    (JOB.replace(b"row 0 a 1", b"row 1 a 2"), "counted from 0"),
+    (JOB.replace(b"script 0 a", b"script 0 A"), "`a` is misspelled"),
+    (JOB.replace(b"script 0 a", b"script 0 work"), "a letter line is missing"),
+    (JOB.replace(b"row 0 a 1", b"row 0 a 1\nrow 0 a 0"), "line 8 says"),
+    (JOB.replace(b"script 0 a", b"script 1 a"), "another script"),
+    (JOB.replace(b"end\n", b"script 0" + b" a" * 65536 + b"\nend\n"), "65536 script letters"),
+]
+# the same of rejected jobs
+REJECTED = [
+    (JOB.replace(b"script 0 a", b"script 0 b\nscript 1 b"), "no row for `b` in any state"),
+    (JOB.replace(b"accept 1", b"accept"), "line 7, `accept`, names no state"),
+    (JOB.replace(b"row 0 a 1", b"row 0 a 0"), "no other state; words are accepted from state 1."),
+    (JOB.replace(b"accept 1\nrow 0 a 1", b"accept 0\nrow 0 a 1\nrow 1 a 1"), "than was meant (line 9)"),
+    (JOB.replace(b"start 0", b"start 1"), "starts in another state than was meant (line 6)"),
+    (JOB.replace(b"script 0 a", b"script 0"), "the scripts do nothing"),
+]
+failed = []
+
+
+def want(is_right, what, text):
+    if not is_right:
+        failed.append("%s, of the text\n%s" % (what, text[:2000].decode("latin-1")))
+
+
+def kinds():
+    with open(os.path.join(TOP, "docs", "FORMATS.md"), encoding="utf-8") as file:
+        return set(re.findall(r"^\| `\w+` \| `([^`]+)` \|", file.read(), re.M))
+
+
+def explanation(text):
+    """The explanation of a text, which begins with its answer."""
+    lines = explain.explain(text)
+    answer = second_reading.answer("solo", text)[1].decode().splitlines()[0]
+    want(lines[0] == answer, "explain answers " + lines[0], text)
+    is_named = answer == "accept" or len(text) > second_reading.MOST_BYTES or re.search(r"\bline", "\n".join(lines))
+    want(is_named, "no line is named", text)
+    return "\n".join(lines)
+
+
+def refusals():
+    met = set()
+    for text, said in REFUSED:
+        told = explanation(text)
+        met.add(told.splitlines()[0].partition(": ")[2])
+        want(said in re.sub(r"\s+", " ", told), "explain doesn't say '%s' but\n%s\n" % (said, told), text)
+    want(met == kinds(), "no text is refused for: %s" % sorted(kinds() ^ met), b"")
+
+
+def rejected():
+    for text, said in REJECTED:
+        told = re.sub(r"\s+", " ", explanation(text))
+        want(told.startswith("reject ") and said in told, "explain doesn't say '%s' but\n%s\n" % (said, told), text)
+
+
+def charts(text):
+    """The chart of a job's run."""
+    job = second_reading.read(text)
+    if second_reading.least_break(job, second_reading.minimal(second_reading.completed(job))) is not None:
+        return
+    word, _ = second_reading.weave(job)
+    run = draw.run_of(text, {"--labels": None}, [])
+    lines = draw.run_text(run).splitlines()
+    order = second_reading.Order(job, word)
+    for p in range(job.processes):
+        mine = [mark for mark in run.marks if p in mark.processes]
+        want(all(x.row < y.row for x, y in zip(mine, mine[1:])), "the lane of process %d doesn't go down" % p, text)
+        at = lines[0].index("process %d" % p)
+        lane = [line[at:].split() for line in lines[1 : len(lines) - bool(run.ends)]]
+        names = [cell[0] for cell in lane if cell and cell[0][0] != "|"]
+        wanted = [order.shown(i) for i, a in enumerate(word) if p in job.loc(a)]
+        want(names == wanted, "the lane of process %d shows %s" % (p, names), text)
+    draw.run_svg(run, "")
+    draw.rule_text(job)
+    draw.rule_svg(job, "")
+
+
+def products(number):
+    """The product of two jobs drawn by a number takes what both take."""
+    draws = random.Random(number)
+    texts = [compare.drawn(draws.randrange(10**6)) for _ in range(2)]
+    jobs = [second_reading.read(text) for text in texts]
+    dfas = [second_reading.completed(job) for job in jobs]
+    dfa = None
+    try:
+        both, _ = product.product(*jobs)
+        dfa = second_reading.completed(second_reading.read(second_reading.printed(both)))
+    except product.Unfit as unfit:
+        if "no word" not in str(unfit):
+            return
+    text = texts[0] + texts[1]
+    letters = [name for name, _ in product.alphabet_of(jobs)]
+    for _ in range(40):
+        word = [draws.randrange(len(letters)) for _ in range(draws.randint(0, 8))]
+        takes = []
+        for job, one in zip(jobs, dfas):
+            names = [bytes(name) for name, _ in job.letters]
+            takes.append(one.accepts([names.index(letters[a]) for a in word if letters[a] in names]))
+        want((dfa is not None and dfa.accepts(word)) == all(takes), "the product differs on %s" % word, text)
+
+
+# of each small rule of docs/RULES.md what it says of a word, and whether it asks for an order of a and b
+SMALL_RULES = {
+    "b only after a first a": (lambda w: "b" not in w or "a" in w[: w.index("b")], True),
+    "a and b take turns, a first": (lambda w: w == ("ab" * len(w))[: len(w)], True),
+    "each a is answered by one b before the next a, and at the end": (lambda w: w == "ab" * (len(w) // 2), True),
+    "at most two a": (lambda w: w.count("a") <= 2, False),
+    "an even number of a": (lambda w: w.count("a") % 2 == 0, False),
+    "never a and b both": (lambda w: "a" not in w or "b" not in w, False),
+    "b is the last": (lambda w: w.endswith("b"), True),
+}
+
+
+def small_rules():
+    """The table of small rules: each takes the words that it says, and can be kept without a common process where it says so."""
+    with open(os.path.join(TOP, "docs", "RULES.md"), encoding="utf-8") as file:
+        rows = re.findall(r"^\| ([^|]+) \| [^|]+ \| ((?:`\d [ab] \d`(?:, )?)+) \| ([\d ]+) \|$", file.read(), re.M)
+    want({name for name, _, _ in rows} == set(SMALL_RULES), "docs/RULES.md has other small rules", b"")
+    for name, said, accept in rows:
+        says, is_order = SMALL_RULES[name]
+        lines = said.replace("`", "").split(", ")
+        states = 1 + max(int(c) for c in said + accept if c.isdigit())
+        lines += ["%d %s %d" % (q, c, q) for c in "ab" if " %s " % c not in said for q in range(states)]
+        for is_shared in (False, True):
+            letters = "letter a 0\nletter b %s\n" % ("0 1" if is_shared else "1")
+            rule = "states %d\nstart 0\naccept %s\nrow %s\nend\n" % (states, accept, "\nrow ".join(lines))
+            text = ("zla 1\nprocesses 2\n" + letters + rule).encode()
+            job = second_reading.read(text)
+            dfa = second_reading.completed(job)
+            is_kept = second_reading.least_break(job, second_reading.minimal(dfa)) is None
+            want(is_kept == (is_shared or not is_order), "'%s' can be kept: %s" % (name, is_kept), text)
+            for length in range(8):
+                for number in range(2**length):
+                    word = [number >> i & 1 for i in range(length)]
+                    right = says("".join("ab"[a] for a in word))
+                    want(dfa.accepts(word) == right, "'%s' is wrong on %s" % (name, word), text)
+
+
+def main():
+    is_long = sys.argv[1:] == ["--long"]
+    refusals()
+    rejected()
+    small_rules()
+    told = charted = 0
+    for command, text in compare.cases(is_long):
+        if command != "solo":
+            continue
+        told += 1
+        if explanation(text).startswith(("accept", "reject", "stuck")):
+            charts(text)
+            charted += 1
+    for number in range(1000 if is_long else 100):
+        products(number)
+    for line in failed[:20]:
+        print("tools: " + line)
+    print("tools: %d texts explained, %d drawn, %d wrong" % (told + len(REFUSED) + len(REJECTED), charted, len(failed)))
+    return 1 if failed else 0
+
+
+if __name__ == "__main__":
+    sys.exit(main())

@@ -1,0 +1,364 @@
+"""Why a text is refused, for tools/explain: the word that is wrong, what may stand there, and how it usually comes there.
+Unproved, over tools/second_reading.py.
+"""
+import re
+from typing import Callable, Dict, List, NamedTuple, Optional, Tuple
+
+import second_reading
+from second_reading import Refused, Token
+from sentences import Lines, listed, nearest, paragraph, processes, quoted
+
+FORMS = {
+    b"zla": "zla 1",
+    b"processes": "processes NUMBER",
+    b"letter": "letter NAME PROCESS ..",
+    b"states": "states NUMBER",
+    b"start": "start STATE",
+    b"accept": "accept STATE ..",
+    b"row": "row STATE LETTER STATE",
+    b"script": "script PROCESS LETTER ..",
+    b"end": "end",
+}
+COMMENTS = (b"#", b"//", b"--", b";", b"%", b"/*", b"(*")
+SHOWN = 110  # columns of a long line that are shown
+
+
+class Told(NamedTuple):
+    """What is said of a refusal."""
+
+    wrong: str
+    may: str
+    cause: str
+
+
+class At(NamedTuple):
+    """A refusal with its line, the tokens of this line, and the whole text."""
+
+    fault: Refused
+    line: bytes
+    words: List[Token]
+    text: bytes
+
+
+# ---- bytes and lines ----
+
+
+def wrong_byte(line: bytes) -> int:
+    """Where the first byte is that may not stand in a line."""
+    return next(i for i, b in enumerate(line) if not (b == 9 or 32 <= b <= 126))
+
+
+def bad_byte(at: At) -> Told:
+    byte = at.line[wrong_byte(at.line)]
+    if byte == 13:
+        what = "a carriage return (byte 13)"
+        cause = "the file has the line ends of Windows; `tr -d '\\r' < JOB > NEW` takes them out"
+    elif at.line.startswith(b"\xef\xbb\xbf"):
+        what = "a byte order mark (bytes 239 187 191)"
+        cause = "an editor put it before the text; save the file as UTF-8 without it, or as ASCII"
+    elif byte == 0 or at.line.startswith((b"\xff\xfe", b"\xfe\xff")):
+        what = "byte %d" % byte
+        cause = "the file was saved as UTF-16; save it as ASCII"
+    elif byte >= 128:
+        what = "byte %d, of a letter or sign beyond ASCII," % byte
+        cause = "an accented letter, a dash, a no-break space or quotation marks that were pasted"
+    else:
+        what = "byte %d, which can't be seen," % byte
+        cause = "it was pasted, or the file isn't a text"
+    return Told(what + " stands here", "tabs and the bytes 32 to 126", cause)
+
+
+def cut(_: At) -> Told:
+    return Told(
+        "the text ends in the middle of this line: no line feed follows it",
+        "the line with a line feed at its end",
+        "an editor that doesn't end the last line, `printf` without `\\n`, or a copy that was cut off",
+    )
+
+
+def no_end(at: At) -> Told:
+    may = (quoted(FORMS[word]) for word in second_reading.PLACES[at.fault.place])
+    said, cause = "the text ends, and its last line isn't `end`", "the last line was forgotten, or a copy was cut off"
+    if at.fault.place == 0:
+        said, cause = "the text has no words at all", "an empty file, or a command before a `|` that failed and wrote nothing"
+    return Told(said, listed(may, "or"), cause)
+
+
+def trailing(at: At) -> Told:
+    said = "the job has ended at line %d" % at.fault.job.lines[b"end"]
+    return Told(said, "empty lines alone", "two jobs in one file, or a line that belongs above `end`")
+
+
+def header(at: At) -> Told:
+    may = "`zla 1`, before all other lines"
+    if at.words[0] == b"zla":
+        return Told("the header has another version, or more words", may, "there is version 1 alone")
+    said = "the first line that isn't empty has to be the header"
+    return Told(said, may, "the header is missing, or something stands above it")
+
+
+def out_of_order(at: At) -> Told:
+    first, job, place = at.words[0], at.fault.job, at.fault.place
+    said = "no line that begins with %s may stand here" % quoted(first)
+    may = listed((quoted(FORMS[word]) for word in second_reading.PLACES[place]), "or")
+    if first not in FORMS:
+        meant = nearest(first, FORMS)
+        if meant:
+            return Told(said, may, "%s is misspelled" % quoted(meant))
+        firsts = listed(map(quoted, FORMS))
+        return Told(said, may, "the line's first word is missing; each line begins with one of " + firsts)
+    mine = [number for number, firsts in enumerate(second_reading.PLACES) if first in firsts]
+    if min(mine) > place:
+        missing = list(second_reading.PLACES[place])[-1]
+        firsts = [line.split()[:1] for line in at.text.split(b"\n")]
+        later = next((i + 1 for i in range(at.fault.line, len(firsts)) if firsts[i] == [missing]), None)
+        where = "it stands too far down, at line %d" % later if later else "it is missing"
+        return Told(said, may, "the %s line comes before it: %s" % (quoted(missing), where))
+    if first in job.lines and first not in (b"letter", b"row"):
+        return Told(said, may, "line %d has it already, and it stands once" % job.lines[first])
+    after = next(word for word in second_reading.PLACES[max(mine)] if word != first)
+    if after not in job.lines:
+        return Told(said, may, "the line stands too far down: move it up")
+    below = "the first script line" if after == b"script" else "line %d, %s" % (job.lines[after], quoted(after))
+    return Told(said, may, "the line stands too far down: move it above " + below)
+
+
+def word_count(at: At) -> Told:
+    first, count = at.words[0], len(at.words)
+    wanted = second_reading.EXACTLY.get(first)
+    many = "%d" % wanted if wanted else "at least %d" % second_reading.AT_LEAST[first]
+    said = "the line has %d %s; a line that begins with %s has %s" % (
+        count,
+        "word" if count == 1 else "words",
+        quoted(first),
+        many,
+    )
+    cause = "a word is missing, or one is too many"
+    if first == b"row" and count > 4:
+        cause = "several letters or states in one row: each letter has a row of its own"
+    elif first == b"end":
+        cause = "something follows `end` in its line"
+    elif first in (b"processes", b"states") and count > 2:
+        cause = "names or a list; the line says how many there are, and they are numbered from 0"
+    return Told(said, quoted(FORMS[first]), cause)
+
+
+def comment(at: At) -> Optional[Token]:
+    return next((word for word in at.words if word.startswith(COMMENTS)), None)
+
+
+# ---- numbers and names ----
+
+
+def role(at: At) -> str:
+    """What the token that is wrong is meant to be."""
+    first = at.words[0]
+    place = next(i for i, word in enumerate(at.words) if word.column == at.fault.token.column)
+    if first == b"row":
+        return "the state that the row begins in" if place == 1 else "the state that the row leads to"
+    return {
+        b"processes": "how many processes there are",
+        b"letter": "a process of the letter",
+        b"states": "how many states there are",
+        b"start": "the state to start in",
+        b"accept": "a state that is accepted",
+        b"script": "the process whose script it is",
+    }[first]
+
+
+def in_another_order(at: At) -> str:
+    return "the words of the line are in another order; it is " + quoted(FORMS[at.words[0]])
+
+
+def bad_number(at: At) -> Told:
+    token = at.fault.token
+    said = "%s isn't a number, and here stands %s" % (quoted(token), role(at))
+    if any(token == name for name, _ in at.fault.job.letters):
+        cause = "it is a letter's name: " + in_another_order(at)
+    elif token.isdigit():
+        cause = "a leading 0" if token[:1] == b"0" else "the number is too large"
+    elif token[:1] in (b"+", b"-"):
+        cause = "a sign"
+    elif re.search(rb"[0-9][,;:]|[,;:][0-9]", token):
+        cause = "a comma or a colon; between the words of a line stand spaces or tabs alone"
+    else:
+        cause = "a name stands for a number; states and processes have numbers alone, from 0"
+    return Told(said, "a number: digits alone, without a sign and without a leading 0", cause)
+
+
+def bad_name(at: At) -> Told:
+    token = at.fault.token
+    other = bytes(b if chr(b).isalnum() or b == 95 else 95 for b in token)
+    cause = "a `-`, `.` or another sign in the name; %s would be one" % quoted(other)
+    if len(token) > 32:
+        cause = "it has %d signs" % len(token)
+    elif token[:1].isdigit():
+        cause = "it begins with a digit; the line is %s, the name first" % quoted(FORMS[b"letter"])
+    may = "a name: 1 to 32 of the signs A to Z, a to z, 0 to 9 and _, of which the first is no digit"
+    return Told("%s isn't a name" % quoted(token), may, cause)
+
+
+def process_count(_: At) -> Told:
+    cause = "a job of no process, or of more than a document may have"
+    return Told("a document has 1 to 6 processes", "a number from 1 to 6", cause)
+
+
+def state_count(_: At) -> Told:
+    cause = (
+        "a rule of no state, or of many parts: leave out the states from which nothing is accepted, since missing rows "
+        "say the same, and give one number to states after which the same words are right"
+    )
+    return Told("a document has 1 to 32 states", "a number from 1 to 32", cause)
+
+
+def numbered(what: str, count: int, line: int) -> Tuple[str, str]:
+    """What may stand for a process or a state, and why another number stands there."""
+    may = "0, the only %s (line %d)" % (what, line)
+    if count > 1:
+        may = "a %s from 0 to %d (line %d)" % (what, count - 1, line)
+    return may, "they are counted from 0; or line %d has to say more of them" % line
+
+
+def no_such_process(at: At) -> Told:
+    job = at.fault.job
+    said = "there is no process " + at.fault.token.decode()
+    return Told(said, *numbered("process", job.processes, job.lines[b"processes"]))
+
+
+def no_such_state(at: At) -> Told:
+    job = at.fault.job
+    return Told("there is no state " + at.fault.token.decode(), *numbered("state", job.states, job.lines[b"states"]))
+
+
+# ---- letters ----
+
+
+def letter_count(_: At) -> Told:
+    return Told("32 letter lines stand above", "a `states` line", "more letters than a document may have")
+
+
+def repeated_name(at: At) -> Told:
+    job, token = at.fault.job, at.fault.token
+    said = "line %d has a letter %s already" % (job.letter_lines[job.letter_of(token)], quoted(token))
+    cause = "a letter of several processes has one line that names them all: `letter %s PROCESS ..`" % token.decode()
+    return Told(said, "another name", cause)
+
+
+def without_process(at: At) -> Told:
+    said = "no process takes part in " + quoted(at.fault.token)
+    return Told(said, quoted(FORMS[b"letter"]), "the processes were forgotten: they stand after the name")
+
+
+def letters_of(at: At, p: int) -> str:
+    mine = (name.decode() for name, loc in at.fault.job.letters if p in loc)
+    return "a letter of process %d: %s" % (p, listed(mine, "or"))
+
+
+def no_such_letter(at: At) -> Told:
+    token, job = at.fault.token, at.fault.job
+    names = [name for name, _ in job.letters]
+    said = "no letter line names " + quoted(token)
+    may = "a letter: " + listed((name.decode() for name in names), "or")
+    if at.words[0] == b"script":
+        may = letters_of(at, int(at.words[1]))
+    meant = nearest(token, names)
+    if second_reading.NUMBER.match(token):
+        cause = in_another_order(at)
+    elif meant:
+        cause = "%s is misspelled (line %d)" % (quoted(meant), job.letter_lines[names.index(meant.encode())])
+    else:
+        lines = job.letter_lines[0], job.letter_lines[-1]
+        cause = "a letter line is missing: the letters stand after `processes`, at lines %d to %d" % lines
+    return Told(said, may, cause)
+
+
+def two_targets(at: At) -> Told:
+    job, name = at.fault.job, at.words[2]
+    q, a = int(at.words[1]), job.letter_of(name)
+    there = job.row_lines[q, a], quoted(name), q, job.targets[q, a]
+    cause = (
+        "a state with two rows of one letter: the rule is in one state at a time, so one of the rows goes, or both lead "
+        "to a new state that stands for either"
+    )
+    said = "line %d says that %s leads from state %d to state %d" % there
+    return Told(said, "state %d" % job.targets[q, a], cause)
+
+
+def not_of_process(at: At) -> Told:
+    job, token, p = at.fault.job, at.fault.token, int(at.words[1])
+    a = job.letter_of(token)
+    there = quoted(token), processes(job.loc(a)), job.letter_lines[a], p
+    said = "%s is of %s (line %d), and this is a script of process %d" % there
+    cause = "the letter belongs into another script; or line %d has to name process %d too" % (job.letter_lines[a], p)
+    return Told(said, letters_of(at, p), cause)
+
+
+def scripts_full(_: At) -> Told:
+    cause = "the scripts are longer than a document may have them"
+    return Told("65536 script letters stand above", "no letter", cause)
+
+
+KINDS: Dict[str, Callable[[At], Told]] = {
+    "line is cut": cut,
+    "bad byte": bad_byte,
+    "header is not zla 1": header,
+    "line is out of order": out_of_order,
+    "wrong number of words": word_count,
+    "end is missing": no_end,
+    "text after end": trailing,
+    "bad number": bad_number,
+    "bad name": bad_name,
+    "processes not in 1 to 6": process_count,
+    "more than 32 letters": letter_count,
+    "name is repeated": repeated_name,
+    "letter without process": without_process,
+    "no such process": no_such_process,
+    "states not in 1 to 32": state_count,
+    "no such state": no_such_state,
+    "no such letter": no_such_letter,
+    "two targets": two_targets,
+    "letter not of this process": not_of_process,
+    "more than 65536 script letters": scripts_full,
+}
+# of these a comment is no likely cause, and what is wrong may be no token
+NOT_OF_TOKENS = ("line is cut", "bad byte", "end is missing", "letter without process")
+
+
+def told_of(at: At) -> Told:
+    note = comment(at)
+    if note is None or at.fault.kind in NOT_OF_TOKENS:
+        return KINDS[at.fault.kind](at)
+    may = "no comment: documents of version 1 have none"
+    return Told("%s begins a comment, it seems" % quoted(note), may, "notes stand in a file beside the job, not in it")
+
+
+def marked(at: At) -> Tuple[int, int]:
+    """Where in its line the wrong part begins, and how long it is."""
+    if at.fault.kind == "bad byte":
+        return wrong_byte(at.line), 1
+    if at.fault.kind == "line is cut":
+        return len(at.line), 1
+    token = comment(at) or at.fault.token
+    return (0, len(at.line)) if token is None else (token.column, len(token))
+
+
+def shown(at: At) -> Lines:
+    """The line, with marks below what is wrong in it; of a long line a part."""
+    column, width = marked(at)
+    first = max(0, column - SHOWN // 2)
+    part = at.line[first : first + SHOWN]
+    head = "  line %d: %s" % (at.fault.line, "..." if first else "")
+    text = "".join(chr(b) if 32 <= b <= 126 else " " if b == 9 else "?" for b in part)
+    more = "..." if first + SHOWN < len(at.line) else ""
+    marks = "^" * max(1, min(width, len(part) - (column - first)))
+    return [head + text + more, " " * (len(head) + column - first) + marks]
+
+
+def explain_refusal(text: bytes, fault: Refused) -> Lines:
+    pieces = text.split(b"\n")
+    line = pieces[fault.line - 1] if fault.line <= len(pieces) else b""
+    at = At(fault, line, second_reading.tokens(line), text)
+    told = told_of(at)
+    out = [str(fault), ""] + (shown(at) + [""] if line else [])
+    heads = ("What is wrong:    ", told.wrong), ("What may stand:   ", told.may), ("The usual cause:  ", told.cause)
+    return out + [line for head, what in heads for line in paragraph(what + ".", head, " " * len(head))]
