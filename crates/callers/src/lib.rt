@@ -5,14 +5,17 @@
 pub mod alphabets;
 pub mod automata;
 pub mod closure;
+pub mod commands;
 pub mod distributed;
 pub mod documents;
 pub mod gossip;
+pub mod hopes;
 pub mod locals;
 pub mod minimal;
 pub mod numbers;
 pub mod pasts;
 pub mod scripts;
+pub mod sensors;
 pub mod streams;
 #[cfg(test)]
 mod tests;

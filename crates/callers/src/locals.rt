@@ -3,13 +3,14 @@
 ghost use Rattle.std.specs.Prelude.{◌≡◌, ◌<◌, ℕ, List, ◌∷◌, [], length, IsTrue, IfOk};
 ghost use Rattle.za_alpha.specs.Words.{has};
 ghost use Rattle.za_alpha.specs.Alphabet.{loc_of};
-ghost use Rattle.za_dfa.specs.Tables.{accepts_at};
-ghost use Rattle.za_local.specs.Locals.{local_after, view_state_after, HasShape};
+ghost use Rattle.za_dfa.specs.Automata.{is_accepted};
+ghost use Rattle.za_dfa.specs.Tables.{accepts_at, automaton_of};
+ghost use Rattle.za_local.specs.Locals.{local_after, view_state_after, HasShape, AreAllLocalsAfter};
 
 use std::alloc::Global;
 use za_alpha::{Letter, OutOfMemory};
 use za_dfa::Closed;
-use za_local::{Bench, Local, opening, transit, view_state};
+use za_local::{Bench, Local, opening, transit, verdict, view_state};
 
 /// The local state of each process of a letter when its event is the first of all.
 pub fn after_first(alloc: Global, closed: &Closed, a: Letter) -> Result<Local, OutOfMemory>
@@ -35,4 +36,16 @@ pub fn accepts_view(closed: &Closed, local: &Local) -> bool
         result ≡ accepts_at closed.now (view_state_after closed.now w p) }
 {
     closed.dfa().accepting(view_state(closed, local))
+}
+
+/// Whether the automaton accepts a run, from the local states of its processes alone: the bench has
+/// those of all of them, in rising order.
+pub fn accepts_run(closed: &Closed, bench: &Bench) -> bool
+    requires { (w : List ℕ) × AreAllLocalsAfter closed.now w bench.now.locals }
+    ensures { (w : List ℕ) → AreAllLocalsAfter closed.now w bench.now.locals →
+        result ≡ is_accepted (automaton_of closed.now) w }
+{
+    let dfa = closed.dfa();
+    let _states = dfa.states();
+    dfa.accepting(verdict(closed, bench))
 }

@@ -1,5 +1,5 @@
 -- The least number that passes a test.
-use Rattle.std.proofs.Common.{◌≡◌, ℕ, zero, suc, ◌<◌, ◌≤◌, Bool, true, false, inl, inr, refl, sym, ◌∙◌, arith}
+use Rattle.std.proofs.Common.{◌≡◌, ℕ, zero, suc, ◌<◌, ◌≤◌, Bool, true, false, cond, inl, inr, refl, sym, ap, ◌∙◌, arith}
 use Rattle.std.proofs.lemmas.Bool.{cond_both, cases_Bool, cond-true, cond-false, cases_lt}
 use Rattle.za_alpha.specs.Search.{least}
 
@@ -47,3 +47,20 @@ least-none test zero h = refl
 least-none test (suc n) h =
     let e = cond-false (test 0) 0 (suc (least (λ k. test (suc k)) n)) (h 0 (omega arith)) in
     let k = least-none (λ k. test (suc k)) n (λ k l. h (suc k) (omega arith)) in omega arith
+
+-- it is below the bound, or the bound where there is none
+pub least-within : (test : ℕ → Bool) (n : ℕ) → least test n ≤ n
+least-within test zero = omega arith
+least-within test (suc n) =
+    let k = least-within (λ k. test (suc k)) n in
+    elim (cases_Bool (test 0)) [
+      | inl t ↦ let e = cond-true (test 0) 0 (suc (least (λ k. test (suc k)) n)) t in omega arith
+      | inr t ↦ let e = cond-false (test 0) 0 (suc (least (λ k. test (suc k)) n)) t in omega arith
+    ]
+
+-- tests that agree below the bound have the same
+pub least-agree : (s t : ℕ → Bool) (n : ℕ) → ((k : ℕ) → k < n → s k ≡ t k) → least s n ≡ least t n
+least-agree s t zero h = refl
+least-agree s t (suc n) h =
+    ap (λ b. cond b 0 (suc (least (λ k. s (suc k)) n))) (h 0 (omega arith))
+    ∙ ap (λ m. cond (t 0) 0 (suc m)) (least-agree (λ k. s (suc k)) (λ k. t (suc k)) n (λ k l. h (suc k) (omega arith)))

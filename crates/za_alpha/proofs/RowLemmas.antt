@@ -12,8 +12,8 @@ use Rattle.za_alpha.specs.declared.letters.Entry.{Entry}
 use Rattle.za_alpha.specs.declared.fault.AlphaFault.{AlphaFault}
 use Rattle.za_names.specs.Names.{is_name}
 use Rattle.za_alpha.specs.Limits.{most_processes, most_letters}
-use Rattle.za_alpha.specs.Rows.{letter_fault, letters_fault, alphabet_fault, letter_of_row}
-use Rattle.za_alpha.specs.Alphabet.{procs_at, name_at}
+use Rattle.za_alpha.specs.Rows.{letter_fault, letters_fault, alphabet_fault}
+use Rattle.za_alpha.specs.Alphabet.{NamedLetter, procs_at, name_at}
 use Rattle.za_alpha.specs.Private.Begun.{letter_of_entry}
 
 -- an if-chain gives none exactly where each test fails
@@ -85,16 +85,10 @@ procs_at-map (e ∷ es) zero d h = refl
 procs_at-map (e ∷ es) (suc i) d h = procs_at-map es i d (omega arith)
 
 -- the name of the letter at a place
-pub name_at-map : (es : List Entry) (i : ℕ) (d : Entry) → i < length es → name_at (map letter_of_entry es) i ≡ (get_or es i d).name.items
-name_at-map [] i d h = absurd (omega arith)
-name_at-map (e ∷ es) zero d h = refl
-name_at-map (e ∷ es) (suc i) d h = name_at-map es i d (omega arith)
-
--- the name of the letter that the row at a place says
-pub name_at-rows : (rows : List LetterRow) (i : ℕ) (d : LetterRow) → i < length rows → name_at (map letter_of_row rows) i ≡ (get_or rows i d).name.items
-name_at-rows [] i d h = absurd (omega arith)
-name_at-rows (row ∷ rows) zero d h = refl
-name_at-rows (row ∷ rows) (suc i) d h = name_at-rows rows i d (omega arith)
+pub name_at-map : {A : Type 0} (f : A → NamedLetter) (xs : List A) (i : ℕ) (d : A) → i < length xs → name_at (map f xs) i ≡ (f (get_or xs i d)).name
+name_at-map f [] i d h = absurd (omega arith)
+name_at-map f (x ∷ xs) zero d h = refl
+name_at-map f (x ∷ xs) (suc i) d h = name_at-map f xs i d (omega arith)
 
 -- a row without fault leaves the first fault to the rows after it
 pub fault-later : (n : ℕ) (rows : List LetterRow) (a : ℕ) (d : LetterRow) → a < length rows → letter_fault n (take a rows) (get_or rows a d) ≡ None →

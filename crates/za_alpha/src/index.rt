@@ -1,6 +1,10 @@
-ghost use Rattle.std.specs.Prelude.{◌≡◌, ◌<◌, ◌+◌, [], replicate, slice_index, slice_set};
+ghost use Rattle.std.specs.Prelude.{◌≡◌, ◌<◌, ◌+◌, ◌*◌, ◌%◌, [], replicate, slice_index, slice_set};
+ghost use Rattle.std.specs.Prelude.{IfSome, is_some, length, map};
 ghost use Rattle.za_alpha.specs.Limits.{most_letters};
+ghost use Rattle.za_alpha.specs.Alphabet.{NamedLetter, place_of};
+ghost use Rattle.za_alpha.specs.NewNames.{is_taken};
 ghost use Rattle.za_alpha.specs.Private.Index.{key_of, keys, IsIndex};
+ghost use Rattle.za_alpha.specs.Private.Begun.{AreApart};
 
 use crate::rows::MOST_LETTERS;
 
@@ -15,16 +19,38 @@ pub(crate) struct Index {
     pub(crate) next: [u8; MOST_LETTERS],
 }
 
-/// The key of a name, made byte by byte.
-pub(crate) fn key_of(name: &[u8]) -> usize
+/// The key of the bytes before and one more.
+fn key_after(key: usize, byte: u8) -> usize
+    requires { key < keys }
+    ensures value { result ≡ (key * 37 + byte) % keys }
+    ensures small { result < keys }
+{
+    (key * 37 + byte as usize) % KEYS
+}
+
+/// The key of a name of any length.
+fn key_of_all(name: &[u8]) -> usize
     ensures value { result ≡ key_of name.now }
     ensures small { result < keys }
 {
     let mut key = 0;
     for b in name {
-        key = (key * 37 + *b as usize) % KEYS;
+        key = key_after(key, *b);
     }
     key
+}
+
+/// The key of a name, made byte by byte. Most names of letters have at most three bytes, and these take no loop.
+pub(crate) fn key_of(name: &[u8]) -> usize
+    ensures value { result ≡ key_of name.now }
+    ensures small { result < keys }
+{
+    match name.len() {
+        1 => key_after(0, name[0]),
+        2 => key_after(key_after(0, name[0]), name[1]),
+        3 => key_after(key_after(key_after(0, name[0]), name[1]), name[2]),
+        _ => key_of_all(name),
+    }
 }
 
 /// The last letters of the keys where there are none.
@@ -62,4 +88,30 @@ impl Index {
         self.next[place] = self.first[key];
         self.first[key] = place as u8 + 1;
     }
+}
+
+/// What has the name of a letter.
+pub(crate) trait Named {
+    ghost letter: { Self → NamedLetter };
+
+    fn name(&self) -> &[u8]
+        ensures { result.now ≡ (letter self.now).name };
+}
+
+/// A place at which the name stands, by the index of the names: the first one where names tell the items apart.
+pub(crate) fn place_of_name<N: Named>(items: &[N], index: &Index, name: &[u8]) -> Option<usize>
+    requires { IsIndex (map N.letter items.now) index.now }
+    ensures within { IfSome result (λ i. i < length items.now) }
+    ensures taken { is_some result ≡ is_taken (map N.letter items.now) name.now }
+    ensures first { AreApart (map N.letter items.now) → result ≡ place_of (map N.letter items.now) name.now }
+{
+    let mut at = index.first[key_of(name)] as usize;
+    'chain: while 0 < at {
+        let i = at - 1;
+        if items[i].name() == name {
+            return Some(i);
+        }
+        at = index.next[i] as usize;
+    }
+    None
 }

@@ -10,7 +10,7 @@ ghost use Rattle.za_alpha.specs.Private.Begun.{letter_of_entry, AreApart};
 
 use crate::alphabet::Alphabet;
 use crate::fault::{NameFault, OutOfMemory};
-use crate::index::{Index, key_of};
+use crate::index::{Index, Named, key_of, place_of_name};
 use crate::procs::Procs;
 use crate::rows::MOST_LETTERS;
 use crate::word::Letter;
@@ -44,22 +44,12 @@ impl Model for Letters {
     ghost invariant = { AreBegun };
 }
 
-/// The place of the entry of a name, by the index of the names.
-fn place_in(entries: &[Entry], index: &Index, name: &[u8]) -> Option<usize>
-    requires indexed { IsIndex (map letter_of_entry entries.now) index.now }
-    requires apart { AreApart (map letter_of_entry entries.now) }
-    ensures value { result ≡ place_of (map letter_of_entry entries.now) name.now }
-    ensures within { IfSome result (λ i. i < length entries.now) }
-{
-    let mut at = index.first[key_of(name)] as usize;
-    'chain: while 0 < at {
-        let i = at - 1;
-        if entries[i].name.as_slice() == name {
-            return Some(i);
-        }
-        at = index.next[i] as usize;
+impl Named for Entry {
+    ghost letter = { letter_of_entry };
+
+    fn name(&self) -> &[u8] {
+        self.name.as_slice()
     }
-    None
 }
 
 /// The name of the entry at a letter's place.
@@ -180,7 +170,7 @@ impl Letters {
     pub(crate) fn find(&self, name: &[u8]) -> Option<Letter>
         ensures { option_map (λ (a : Letter). a.0) result ≡ place_of self.now.letters name.now }
     {
-        match place_in(self.entries.as_slice(), &self.index, name) {
+        match place_of_name(self.entries.as_slice(), &self.index, name) {
             Some(place) => Some(Letter(place as u8)),
             None => None,
         }

@@ -10,11 +10,19 @@ ghost use Rattle.za_alpha.specs.Private.NextRow.{IsNextRow};
 
 use crate::alphabet::LetterRow;
 use crate::fault::{AlphaFault, OutOfMemory};
-use crate::index::{Index, key_of};
+use crate::index::{Index, Named, key_of, place_of_name};
 use crate::letters::Letters;
 use crate::procs::Procs;
 use crate::word::Letter;
 use za_names::is_name;
+
+impl Named for LetterRow {
+    ghost letter = { letter_of_row };
+
+    fn name(&self) -> &[u8] {
+        self.name.as_slice()
+    }
+}
 
 /// The most processes of an alphabet.
 pub const MOST_PROCESSES: usize = 10;
@@ -27,15 +35,7 @@ fn is_named(rows: &[LetterRow], index: &Index, name: &[u8]) -> bool
     requires { IsIndex (map letter_of_row rows.now) index.now }
     ensures { result ≡ list_any (λ row. bytes_eq row.name.items name.now) rows.now }
 {
-    let mut at = index.first[key_of(name)] as usize;
-    'chain: while 0 < at {
-        let i = at - 1;
-        if rows[i].name.as_slice() == name {
-            return true;
-        }
-        at = index.next[i] as usize;
-    }
-    false
+    place_of_name(rows, index, name).is_some()
 }
 
 fn has_from(procs: &[u32], processes: usize) -> bool

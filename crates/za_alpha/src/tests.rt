@@ -206,3 +206,16 @@ fn first_wrong_row(rt: HostRuntime) -> Result<(), Fail> {
     }
     Ok(())
 }
+
+#[test]
+fn runs_of_one_letter(rt: HostRuntime) -> Result<(), Fail> {
+    let mut word = Word::new(rt.alloc());
+    for (letter, count) in [(1, 2), (0, 0), (0, 1)] {
+        word.push_run(Letter(letter), count)?;
+    }
+    assert_eq!(rt;
+        word.letters(),
+        [Letter(1), Letter(1), Letter(0)].as_slice()
+    );
+    Ok(())
+}

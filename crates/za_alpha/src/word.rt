@@ -1,4 +1,4 @@
-ghost use Rattle.std.specs.Prelude.{◌≡◌, ◌==◌, [], ◌∷◌, ◌++◌, length, OnOk, OnErr, IfOk};
+ghost use Rattle.std.specs.Prelude.{◌≡◌, ◌==◌, [], ◌∷◌, ◌++◌, length, replicate, OnOk, OnErr, IfOk};
 
 use crate::fault::OutOfMemory;
 use std::alloc::Global;
@@ -48,6 +48,16 @@ impl Word {
         ensures err { OnErr result (self.new ≡ self.old) }
     {
         self.items.push(a)?;
+        Ok(())
+    }
+
+    /// Appends a letter so many times, or not at all: where memory is refused the word stays as it was.
+    pub fn push_run(&mut self, a: Letter, count: u32) -> Result<(), OutOfMemory>
+        ensures ok { OnOk result (self.new ≡ self.old ++ replicate count a.0) }
+        ensures err { OnErr result (self.new ≡ self.old) }
+    {
+        let len = self.items.len() + count as usize;
+        self.items.resize(len, a)?;
         Ok(())
     }
 

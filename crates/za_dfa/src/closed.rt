@@ -1,4 +1,4 @@
-ghost use Rattle.std.specs.Prelude.{◌≡◌, MatchResult, IfOk};
+ghost use Rattle.std.specs.Prelude.{◌≡◌, ◌<◌, MatchResult, IfOk};
 ghost use Rattle.za_alpha.specs.Alphabet.{loc_of};
 ghost use Rattle.za_dfa.specs.Automata.{HasDiamonds};
 ghost use Rattle.za_dfa.specs.Diamonds.{BreaksDiamond};
@@ -63,5 +63,17 @@ impl Closed {
         ensures { IfOk result (λ closed. closed ≡ self.now) }
     {
         Ok(Closed::of_diamonds(self.dfa.copy()?))
+    }
+
+    /// The same table with start `q`, which is a state of it: it accepts the words that lead from `q` to an
+    /// accepting state. Where `q` is the state after a word `w`, these are the words `v` of which `wv` is
+    /// accepted: the left quotient of the language by `w`. It takes no memory.
+    pub fn restart(self, q: u8) -> Closed
+        requires { q < self.states }
+        ensures { result ≡ record self { start = q } }
+    {
+        Closed {
+            dfa: self.dfa.restart(q),
+        }
     }
 }

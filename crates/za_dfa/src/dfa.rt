@@ -186,4 +186,13 @@ impl Dfa {
     {
         self.accepting(self.run(self.start(), w))
     }
+
+    /// The same table with start `q`.
+    pub(crate) fn restart(mut self, q: u8) -> Dfa
+        requires { q < self.states }
+        ensures { result ≡ record self { start = q } }
+    {
+        self.start = q;
+        self
+    }
 }

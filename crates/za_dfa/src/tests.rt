@@ -76,6 +76,18 @@ fn accepts<R: Abort + AllocGlobal>(rt: &R, dfa: &Dfa, letters: &[u8]) -> Result<
     Ok(dfa.accepts(&word))
 }
 
+/// Tries words, of which it is said whether they are accepted.
+fn try_words<R: Abort + AllocGlobal>(
+    rt: &R,
+    dfa: &Dfa,
+    words: &[(&[u8], bool)],
+) -> Result<(), Fail> {
+    for (letters, accepted) in words {
+        assert_eq!(rt; accepts(rt, dfa, letters)?, *accepted, "at {letters:?}");
+    }
+    Ok(())
+}
+
 /// Where a word leads from a state.
 fn target<R: Abort + AllocGlobal>(rt: &R, dfa: &Dfa, q: u8, letters: &[u8]) -> Result<u8, Fail> {
     let word = word_of(rt.alloc(), letters)?;
@@ -120,15 +132,25 @@ const PARITY_OF_A: [Row; 6] = [
 #[test]
 fn even_numbers_of_a_are_accepted(rt: HostRuntime) -> Result<(), Fail> {
     let dfa = completed(&rt, true, 2, 0, &PARITY_OF_A)??;
-    assert!(rt; dfa.states() == 2 && dfa.alphabet().letters() == 3 && dfa.start() == 0);
-    for (letters, accepted) in [
-        ([0, 1, 2, 0].as_slice(), true),
-        ([].as_slice(), true),
-        ([2, 0, 1].as_slice(), false),
-        ([0, 0, 0].as_slice(), false),
-    ] {
-        assert_eq!(rt; accepts(&rt, &dfa, letters)?, accepted, "at {letters:?}");
-    }
+    assert_eq!(rt;
+        (dfa.states(), dfa.alphabet().letters(), dfa.start()),
+        (2, 3, 0)
+    );
+    try_words(
+        &rt,
+        &dfa,
+        &[
+            (&[0, 1, 2, 0], true),
+            (&[], true),
+            (&[2, 0, 1], false),
+            (&[0, 0, 0], false),
+        ],
+    )
+}
+
+#[test]
+fn a_word_leads_on_from_any_state(rt: HostRuntime) -> Result<(), Fail> {
+    let dfa = completed(&rt, true, 2, 0, &PARITY_OF_A)??;
     assert_eq!(rt; target(&rt, &dfa, 1, &[1, 0])?, 0);
     Ok(())
 }
@@ -143,24 +165,61 @@ fn even_numbers_of_a_are_closed(rt: HostRuntime) -> Result<(), Fail> {
     Ok(())
 }
 
+/// From where one `a` leads, an odd number more of them makes an even one.
+#[test]
+fn a_closed_table_with_another_start(rt: HostRuntime) -> Result<(), Fail> {
+    let dfa = completed(&rt, true, 2, 0, &PARITY_OF_A)??;
+    let closed = Closed::new(dfa).ok().expect(&rt, "closed");
+    assert!(rt; closed.dfa().states() == 2);
+    let rest = closed.restart(1);
+    assert_eq!(rt; rest.dfa().start(), 1);
+    try_words(
+        &rt,
+        rest.dfa(),
+        &[
+            (&[0], true),
+            (&[], false),
+            (&[2, 0, 1], true),
+            (&[0, 0], false),
+        ],
+    )
+}
+
+/// Where each letter leads from each state.
+fn table_of<R: Abort + AllocGlobal>(rt: &R, dfa: &Dfa) -> Result<Vec<u8>, Fail> {
+    let mut targets = Vec::new(rt.alloc());
+    for cell in 0..dfa.states() * dfa.alphabet().letters() {
+        targets.push(target_of_cell(rt, dfa, cell))?;
+    }
+    Ok(targets)
+}
+
+fn target_of_cell(rt: &impl Abort, dfa: &Dfa, cell: usize) -> u8 {
+    let letters = dfa.alphabet().letters();
+    assert!(rt; letters > 0 && letters <= 128 && cell < 129 * letters);
+    let (q, a) = (cell / letters, cell % letters);
+    assert!(rt; q < dfa.states() && q < 256 && a < letters);
+    dfa.step(q as u8, Letter(a as u8))
+}
+
 #[test]
 fn missing_rows_lead_to_an_added_state(rt: HostRuntime) -> Result<(), Fail> {
     let dfa = completed(&rt, false, 2, 0, &[row(0, 0, 1), row(1, 1, 0)])??;
     assert_eq!(rt; dfa.states(), 3);
-    assert!(rt; dfa.accepting(0));
-    assert!(rt; !dfa.accepting(1));
-    assert!(rt; !dfa.accepting(2));
-    let mut targets = Vec::new(rt.alloc());
-    for q in 0..3u8 {
-        for a in 0..2u8 {
-            assert!(rt; (a as usize) < dfa.alphabet().letters());
-            targets.push(dfa.step(q, Letter(a)))?;
-        }
-    }
+    let targets = table_of(&rt, &dfa)?;
     assert_eq!(rt; targets.as_slice(), [1, 2, 2, 0, 2, 2].as_slice());
-    assert!(rt; accepts(&rt, &dfa, &[0, 1])?);
-    assert!(rt; !accepts(&rt, &dfa, &[1, 0])?);
     Ok(())
+}
+
+#[test]
+fn an_added_state_accepts_nothing(rt: HostRuntime) -> Result<(), Fail> {
+    let dfa = completed(&rt, false, 2, 0, &[row(0, 0, 1), row(1, 1, 0)])??;
+    assert_eq!(rt; dfa.states(), 3);
+    assert_eq!(rt;
+        (dfa.accepting(0), dfa.accepting(1), dfa.accepting(2)),
+        (true, false, false)
+    );
+    try_words(&rt, &dfa, &[(&[0, 1], true), (&[1, 0], false)])
 }
 
 fn enter(rt: &impl Abort, partial: &mut Partial, row: Row) -> Result<(), TwoTargets> {
@@ -169,55 +228,106 @@ fn enter(rt: &impl Abort, partial: &mut Partial, row: Row) -> Result<(), TwoTarg
     partial.enter(row.from as u8, row.letter, row.to as u8)
 }
 
-#[test]
-fn a_partial_table_row_by_row(rt: HostRuntime) -> Result<(), Fail> {
+/// A table over two letters without a common process that begins in state 1 and accepts it, with rows
+/// entered one by one, of which it is said whether they may be.
+fn entered<R: Abort + AllocGlobal>(
+    rt: &R,
+    rows: &[(Row, Result<(), TwoTargets>)],
+) -> Result<Partial, Fail> {
     let alphabet = alphabet_of(rt.alloc(), false)?;
     let mut partial = Partial::blank(rt.alloc(), alphabet, 2)?;
     partial.start_at(1);
     partial.accept(1);
-    assert_eq!(rt; enter(&rt, &mut partial, row(0, 0, 1)), Ok(()));
-    assert_eq!(rt; enter(&rt, &mut partial, row(0, 0, 0)), Err(TwoTargets));
-    assert_eq!(rt; enter(&rt, &mut partial, row(0, 0, 1)), Ok(()));
-    assert_eq!(rt; enter(&rt, &mut partial, row(1, 1, 0)), Ok(()));
-    let dfa = partial.completed()?;
-    assert!(rt; dfa.states() == 3);
+    for (row, answer) in rows {
+        assert_eq!(rt; enter(rt, &mut partial, *row), *answer, "at {row:?}");
+    }
+    Ok(partial)
+}
+
+#[test]
+fn a_partial_table_row_by_row(rt: HostRuntime) -> Result<(), Fail> {
+    let rows = [
+        (row(0, 0, 1), Ok(())),
+        (row(0, 0, 0), Err(TwoTargets)),
+        (row(0, 0, 1), Ok(())),
+        (row(1, 1, 0), Ok(())),
+    ];
+    let dfa = entered(&rt, &rows)?.completed()?;
+    assert_eq!(rt; (dfa.states(), dfa.start()), (3, 1));
+    try_words(&rt, &dfa, &[(&[1, 0], true), (&[0], false)])
+}
+
+#[test]
+fn a_whole_table_is_a_partial_one(rt: HostRuntime) -> Result<(), Fail> {
+    let dfa = entered(&rt, &[(row(1, 1, 0), Ok(()))])?.completed()?;
+    assert_eq!(rt; dfa.states(), 3);
     let again = Partial::of(rt.alloc(), &dfa)?.complete()?;
     assert_eq!(rt; (again.states(), again.start()), (3, 1));
-    assert!(rt; accepts(&rt, &again, &[1, 0])?);
-    assert!(rt; !accepts(&rt, &again, &[0])?);
+    try_words(&rt, &again, &[(&[], true), (&[1], false)])
+}
+
+#[test]
+fn which_lists_are_tables(rt: HostRuntime) -> Result<(), Fail> {
+    let alphabet = alphabet_of(rt.alloc(), false)?;
+    let targets: &[u8] = &[1, 0, 0, 1];
+    assert!(rt; !Dfa::is_table(&alphabet, 1, &[true, false], &targets[..3]));
+    assert!(rt; Dfa::is_table(&alphabet, 1, &[true, false], targets));
     Ok(())
 }
 
 #[test]
 fn a_whole_table(rt: HostRuntime) -> Result<(), Fail> {
     let alphabet = alphabet_of(rt.alloc(), false)?;
-    assert_eq!(rt; alphabet.letters(), 2);
     let accepting = Vec::from_slice(rt.alloc(), &[true, false])?;
     let targets = Vec::from_slice(rt.alloc(), &[1, 0, 0, 1])?;
-    assert!(rt; !Dfa::is_table(&alphabet, 1, &accepting, &targets[..3]));
     assert!(rt; Dfa::is_table(&alphabet, 1, &accepting, &targets));
     let dfa = Dfa::of_table(alphabet, 1, accepting, targets);
     assert_eq!(rt; dfa.states(), 2);
-    assert!(rt; accepts(&rt, &dfa, &[1, 0])?);
-    assert!(rt; !accepts(&rt, &dfa, &[0, 0])?);
-    Ok(())
+    try_words(&rt, &dfa, &[(&[1, 0], true), (&[0, 0], false)])
 }
 
+/// `a` leads to state 1 and `b` to state 0, so the last letter tells the state.
+const LAST_LETTER: [Row; 4] = [
+    Row {
+        from: 0,
+        letter: Letter(0),
+        to: 1,
+    },
+    Row {
+        from: 1,
+        letter: Letter(1),
+        to: 0,
+    },
+    Row {
+        from: 0,
+        letter: Letter(1),
+        to: 0,
+    },
+    Row {
+        from: 1,
+        letter: Letter(0),
+        to: 1,
+    },
+];
+
 #[test]
-fn a_broken_diamond_hands_the_dfa_back(rt: HostRuntime) -> Result<(), Fail> {
-    let rows = [row(0, 0, 1), row(1, 1, 0), row(0, 1, 0), row(1, 0, 1)];
-    let dfa = completed(&rt, false, 2, 0, &rows)??;
+fn a_broken_diamond_is_found(rt: HostRuntime) -> Result<(), Fail> {
+    let dfa = completed(&rt, false, 2, 0, &LAST_LETTER)??;
     let diamond = Diamond {
         state: 0,
         left: Letter(0),
         right: Letter(1),
     };
     assert_eq!(rt; first_broken(&dfa), Some(diamond));
+    Ok(())
+}
+
+#[test]
+fn a_broken_diamond_hands_the_dfa_back(rt: HostRuntime) -> Result<(), Fail> {
+    let dfa = completed(&rt, false, 2, 0, &LAST_LETTER)??;
     let refused = Closed::new(dfa).err().expect(&rt, "refused");
     assert_eq!(rt; refused.states(), 2);
-    assert!(rt; accepts(&rt, &refused, &[0, 1])?);
-    assert!(rt; !accepts(&rt, &refused, &[1, 0])?);
-    Ok(())
+    try_words(&rt, &refused, &[(&[0, 1], true), (&[1, 0], false)])
 }
 
 #[test]

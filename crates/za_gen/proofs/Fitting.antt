@@ -10,8 +10,8 @@ use Rattle.za_alpha.specs.Alphabet.{DistributedAlphabet, loc_of}
 use Rattle.za_alpha.proofs.Projections.{projection-outside}
 use Rattle.za_alpha.proofs.Swaps.{seen-take, seen-skip}
 use Rattle.za_dfa.specs.Tables.{table_with}
-use Rattle.za_dfa.specs.Partials.{PartialDfa}
 use Rattle.za_lang.specs.Jobs.{JobData}
+use Rattle.za_lang.specs.Namings.{LangData}
 use Rattle.za_script.specs.Scripts.{Weaves}
 use Rattle.za_script.specs.ScriptLists.{IsLetterOf, FitAlphabet, script_of}
 use Rattle.za_gen.specs.Generated.{generated_alphabet, generated_scripts}
@@ -65,8 +65,7 @@ pub same-table : (a b : DistributedAlphabet) (xs ys : List Bool) (ts us : List �
 same-table a b xs ys ts us p q r = ap (λ (x : DistributedAlphabet). table_with x 0 xs ts) p ∙ ap (λ (x : List Bool). table_with b 0 x ts) q
     ∙ ap (λ (x : List ℕ). table_with b 0 ys x) r
 
-abbrev job_with : PartialDfa → List (List ℕ) → JobData
-job_with lang scripts = record { lang = lang; scripts = scripts }
-
-pub same-job : (l m : PartialDfa) (s t : List (List ℕ)) → l ≡ m → s ≡ t → job_with l s ≡ job_with m t
-same-job l m s t p q = ap (λ (x : PartialDfa). job_with x s) p ∙ ap (job_with m) q
+pub same-job : (l m : LangData) (s t : List (List ℕ)) → l ≡ m → s ≡ t → ◌≡◌ {A = JobData} (record { naming = l.naming; lang = l.table; scripts = s }) (record { naming = m.naming; lang = m.table; scripts = t })
+same-job l m s t p q =
+    ap (λ (x : LangData). let job : JobData = record { naming = x.naming; lang = x.table; scripts = s } in job) p
+    ∙ ap (λ xs. let job : JobData = record { naming = m.naming; lang = m.table; scripts = xs } in job) q

@@ -8,6 +8,7 @@ use Rattle.za_dfa.proofs.Completing.{whole_completes, whole_partial}
 use Rattle.za_script.specs.declared.answer.Answer.TheVariants.{Accept}
 use Rattle.za_script.specs.Answer.{IsAnswer}
 use Rattle.za_script.specs.ScriptLists.{script_of, AreScripts}
+use Rattle.za_lang.proofs.Naming.{numbered_naming}
 use Rattle.za_gen.specs.Limits.{letters_drawn}
 use Rattle.za_gen.specs.Drawn.{drawn}
 use Rattle.za_gen.specs.Generated.{generated_alphabet, generated_dfa, generated_scripts, generated_job, next_state}
@@ -32,6 +33,7 @@ are_jobs number =
     let h = drawn-word number letters_drawn in
     let size = length-drawn number letters_drawn in
     record {
+      naming = numbered_naming 4 (omega arith);
       lang = whole_partial (generated_dfa w) (generated-complete (walk next_state 0 w)) (omega arith);
       limits = record { few_processes = omega arith; few_letters = omega arith; few_states = omega arith };
       scripts = scripts-within w h (omega arith);

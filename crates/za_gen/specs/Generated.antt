@@ -7,7 +7,10 @@ use Rattle.za_alpha.specs.Alphabet.{NamedLetter, DistributedAlphabet, loc_of}
 use Rattle.za_dfa.specs.Automata.{walk}
 use Rattle.za_dfa.specs.Tables.{CompleteDfa, table_with}
 use Rattle.za_dfa.specs.Partials.{whole_of}
+use Rattle.za_text.specs.ProcessNames.{numbered}
+use Rattle.za_lang.specs.declared.version.Version.TheVariants.{One}
 use Rattle.za_lang.specs.Jobs.{JobData}
+use Rattle.za_lang.specs.Namings.{Naming}
 use Rattle.za_print.specs.Printed.{printed}
 use Rattle.za_gen.specs.Limits.{letters_drawn}
 use Rattle.za_gen.specs.Drawn.{drawn}
@@ -60,9 +63,14 @@ generated_dfa word = table_with generated_alphabet 0 (accepting_at (walk next_st
 abbrev pub generated_scripts : List ℕ → List (List ℕ)
 generated_scripts word = map (λ p. projection (loc_of generated_alphabet) p word) (range_with_len 0 4)
 
+-- the four processes are named by their numbers: the job is one of version 1
+abbrev pub generated_naming : Naming
+generated_naming = record { version = One; names = numbered 4 }
+
 -- the job of a word
 abbrev pub job_by : List ℕ → JobData
-job_by word = record { lang = whole_of (generated_dfa word); scripts = generated_scripts word }
+job_by word =
+    record { naming = generated_naming; lang = whole_of (generated_dfa word); scripts = generated_scripts word }
 
 -- the job of the word that is drawn from the number
 unfoldable pub generated_job : ℕ → JobData

@@ -40,7 +40,7 @@ fn job_by(alloc: Global, word: &Word) -> Result<Job, OutOfMemory>
     requires word { IsWord 8 word.now }
     requires few { length word.now ≤ letters_drawn }
     ensures value { IfOk result (λ job. data_of job ≡ job_by word.now) }
-    ensures fit { IfOk result (λ job. FitAlphabet job.lang.alphabet job.scripts) }
+    ensures fit { IfOk result (λ job. FitAlphabet job.lang.table.alphabet job.scripts) }
 {
     let alphabet = alphabet(alloc)?;
     let scripts = scripts_of(alloc, &alphabet, word)?;

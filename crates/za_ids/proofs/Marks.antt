@@ -1,5 +1,5 @@
 -- Marks of the labels whose numbers are in a list.
-use Rattle.std.proofs.Common.{◌≡◌, ℕ, ◌+◌, ◌<◌, ◌≤◌, Bool, true, false, ◌||◌, ◌==◌, inl, inr, List, [], ◌∷◌, length, take, get_or, set, replicate, refl, sym, ap, subst, ◌∙◌, arith, eq-eqb, ne_eqb, get_or-set_same, get_or-set_other}
+use Rattle.std.proofs.Common.{◌≡◌, ◌↔◌, ℕ, ◌+◌, ◌<◌, ◌≤◌, Bool, true, false, ◌||◌, ◌==◌, inl, inr, List, [], ◌∷◌, length, take, get_or, set, replicate, refl, sym, ap, ◌∙◌, arith, eq-eqb, ne_eqb, get_or-set_same, get_or-set_other}
 use Rattle.std.specs.List.{list_any}
 use Rattle.std.proofs.lemmas.Bool.{cases_eq, or_right}
 use Rattle.std.proofs.lemmas.List.{length-set, length-replicate, get_or-replicate}
@@ -35,28 +35,18 @@ module _ (number : ℕ → ℕ) (most : ℕ) (ids : List EventId) where
     marks = λ k h. get_or-replicate size k false false (omega arith);
   }
 
-  -- the next is no number of these
-  pub marks-keep : (taken : List Bool) (i : ℕ) (d : EventId) → i < length ids → AreMarked number most ids taken i →
-      ((k : ℕ) → k ≤ most → (get_or ids i d).0 ≡ number k → ⊥) → AreMarked number most ids taken (i + 1)
-  marks-keep taken i d l m other = record {
-    room = m.room;
-    marks = λ k h.
-        m.marks k h
-        ∙ sym (has-more i (number k) d l ∙ ap (λ b. has (event_numbers (take i ids)) (number k) || b) (ne_eqb (get_or ids i d).0 (number k) (other k h)) ∙ or-none (has (event_numbers (take i ids)) (number k)));
-  }
-
-  -- it is the number of a label
-  pub marks-set : (taken : List Bool) (i label : ℕ) (d : EventId) → i < length ids → AreMarked number most ids taken i → label ≤ most → (get_or ids i d).0 ≡ number label →
-      ((k : ℕ) → k ≤ most → (get_or ids i d).0 ≡ number k → label ≡ k) → AreMarked number most ids (set taken label true) (i + 1)
-  marks-set taken i label d l m hl own only = record {
-    room = let e = length-set taken label true in let r = m.room in omega arith;
-    marks = λ k h. elim (cases_eq k label) [
+  -- a place is marked that is that of the next number, where it is the number of a label
+  pub marks-place : (taken : List Bool) (i place : ℕ) (d : EventId) → i < length ids → AreMarked number most ids taken i →
+      ((k : ℕ) → k ≤ most → (place ≡ k) ↔ ((get_or ids i d).0 ≡ number k)) → AreMarked number most ids (set taken place true) (i + 1)
+  marks-place taken i place d l m own = record {
+    room = let e = length-set taken place true in let r = m.room in omega arith;
+    marks = λ k h. elim (cases_eq k place) [
       | inl same ↦
-          subst (λ j. get_or (set taken label true) j false ≡ has (event_numbers (take (i + 1) ids)) (number j)) (sym same)
-          (get_or-set_same taken label true false (let r = m.room in omega arith)
-          ∙ sym (has-more i (number label) d l ∙ or_right (has (event_numbers (take i ids)) (number label)) ((get_or ids i d).0 == number label) (eq-eqb (get_or ids i d).0 (number label) own)))
+          ap (λ j. get_or (set taken place true) j false) same
+          ∙ get_or-set_same taken place true false (let r = m.room in omega arith)
+          ∙ sym (has-more i (number k) d l ∙ or_right (has (event_numbers (take i ids)) (number k)) ((get_or ids i d).0 == number k) (eq-eqb (get_or ids i d).0 (number k) ((own k h).0 (sym same))))
       | inr ne ↦
-          get_or-set_other taken label k true false ne ∙ m.marks k h
-          ∙ sym (has-more i (number k) d l ∙ ap (λ b. has (event_numbers (take i ids)) (number k) || b) (ne_eqb (get_or ids i d).0 (number k) (λ e. ne (sym (only k h e)))) ∙ or-none (has (event_numbers (take i ids)) (number k)))
+          get_or-set_other taken place k true false ne ∙ m.marks k h
+          ∙ sym (has-more i (number k) d l ∙ ap (λ b. has (event_numbers (take i ids)) (number k) || b) (ne_eqb (get_or ids i d).0 (number k) (λ e. ne (sym ((own k h).1 e)))) ∙ or-none (has (event_numbers (take i ids)) (number k)))
     ];
   }

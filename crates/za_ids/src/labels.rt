@@ -1,6 +1,6 @@
-ghost use Rattle.std.specs.Prelude.{◌≡◌, ℕ, ◌+◌, ◌^◌, ◌<◌, ◌≤◌, ◌↔◌, length, replicate, slice_index_or, Some};
+ghost use Rattle.std.specs.Prelude.{◌≡◌, ℕ, ◌+◌, ◌^◌, ◌<◌, ◌≤◌, ◌↔◌, length, replicate, slice_index_or};
 ghost use Rattle.std.specs.Prelude.{false, not};
-ghost use Rattle.std.specs.Prelude.{IsTrue, IsFalse, IfSome};
+ghost use Rattle.std.specs.Prelude.{IsTrue, IsFalse};
 ghost use Rattle.za_alpha.specs.Limits.{most_processes, most_letters};
 ghost use Rattle.za_alpha.specs.Words.{has};
 ghost use Rattle.za_alpha.specs.Search.{least};
@@ -14,6 +14,9 @@ use za_alpha::{Letter, MOST_PROCESSES};
 /// How many labels a letter has with the most processes.
 pub const MOST_LABELS: usize = MOST_PROCESSES * MOST_PROCESSES * MOST_PROCESSES + 1;
 
+/// How many marks there are: one for each label, and one for all numbers of other letters.
+const MARKS: usize = MOST_LABELS + 1;
+
 /// The least label, at most the cube of `n`, whose number with the letter isn't in `ids`. There are
 /// `n` processes, 1 to 10, the letter is below 128, and there are at most as many numbers as the
 /// cube of `n`.
@@ -26,17 +29,17 @@ pub fn least_free(n: usize, a: Letter, ids: &[EventId]) -> u16
     ensures free { IsFalse (has (event_numbers ids.now) (number_of n a.0 result)) }
     ensures least { (k : ℕ) → k < result → IsTrue (has (event_numbers ids.now) (number_of n a.0 k)) }
 {
-    let mut taken = [false; MOST_LABELS];
+    let mut taken = [false; MARKS];
     mark_labels(n, a, ids, &mut taken);
     first_unmarked(taken.as_slice()) as u16
 }
 
 /// Marks each label at most the cube of `n` whose number with the letter is in `ids`; none is marked before.
-fn mark_labels(n: usize, a: Letter, ids: &[EventId], taken: &mut [bool; MOST_LABELS])
+fn mark_labels(n: usize, a: Letter, ids: &[EventId], taken: &mut [bool; MARKS])
     requires some_process { 1 ≤ n }
     requires few_processes { n ≤ most_processes }
     requires letter { a.0 < most_letters }
-    requires none { taken.old ≡ replicate most_labels false }
+    requires none { taken.old ≡ replicate (most_labels + 1) false }
     ensures room { n ^ 3 < length taken.new }
     ensures marks { (k : ℕ) → k ≤ n ^ 3 →
         slice_index_or taken.new k false ≡ has (event_numbers ids.now) (number_of n a.0 k) }
@@ -44,25 +47,18 @@ fn mark_labels(n: usize, a: Letter, ids: &[EventId], taken: &mut [bool; MOST_LAB
     let first = id_of(n, a, 0);
     let labels = label_count(n);
     for id in ids {
-        if let Some(label) = place_from(first, labels, *id) {
-            taken[label] = true;
-        }
+        taken[place_from(first, labels, *id)] = true;
     }
 }
 
-/// The place of a number among `count` numbers from the first on, if it is one of them.
-fn place_from(first: EventId, count: u32, id: EventId) -> Option<usize>
+/// The place of a number among `count` numbers from the first on, and `count` where it is none of them.
+fn place_from(first: EventId, count: u32, id: EventId) -> usize
     requires { first.0 + count ≤ 4294967296 }
-    ensures within { IfSome result (λ k. k < count) }
-    ensures value { (k : ℕ) → k < count → (result ≡ Some k) ↔ (id.0 ≡ first.0 + k) }
+    ensures within { result ≤ count }
+    ensures value { (k : ℕ) → k < count → (result ≡ k) ↔ (id.0 ≡ first.0 + k) }
 {
-    // A number below the first wraps to one that is too great, so that one test is enough.
-    let place = id.0.wrapping_sub(first.0);
-    if place < count {
-        Some(place as usize)
-    } else {
-        None
-    }
+    // A number below the first wraps to one that is too great. No branch: it would be taken as often as not.
+    id.0.wrapping_sub(first.0).min(count) as usize
 }
 
 /// The place of the first mark that is not set, and the number of marks where all are.

@@ -1,28 +1,31 @@
 -- Scripts to which letters are appended.
-use Rattle.std.proofs.Common.{◌≡◌, ◌≢◌, ℕ, zero, suc, ◌+◌, ◌<◌, true, false, not, eqb, None, List, [], ◌∷◌, ◌++◌, length, refl, sym, ap, subst, ◌∙◌, arith, inl, inr, append_assoc, length-append, set, length-set, get_or-set_other, get_or-set_same}
+use Rattle.std.proofs.Common.{◌≡◌, ◌≢◌, ℕ, zero, suc, ◌+◌, ◌<◌, ◌≤◌, true, List, [], ◌∷◌, ◌++◌, length, replicate, refl, sym, ap, subst, ◌∙◌, arith, inl, inr, append_assoc, length-append, set, length-set, get_or-set_other, get_or-set_same}
 use Rattle.std.specs.Prelude.{All}
-use Rattle.std.proofs.lemmas.Bool.{cases_eq, not-false}
-use Rattle.std.proofs.lemmas.List.{append-nil}
+use Rattle.std.proofs.lemmas.Bool.{cases_eq}
+use Rattle.std.proofs.lemmas.List.{append-nil, length-replicate}
 use Rattle.std.proofs.lemmas.List.Elements.{All-nil, All-cons, All-append}
 use Rattle.za_alpha.specs.Words.{has}
 use Rattle.za_alpha.specs.Alphabet.{DistributedAlphabet, loc_of}
 use Rattle.za_script.specs.Limits.{most_script_letters}
-use Rattle.za_alpha.specs.declared.word.Letter.{Letter}
-use Rattle.za_script.specs.ScriptLists.{script_of, total_of, AreScripts, IsLetterOf, FitAlphabet, add_fault}
-use Rattle.za_alpha.proofs.RowLemmas.{none_of_cond}
-use Rattle.za_script.proofs.Totals.{total_of-add, AreScripts-add}
+use Rattle.za_script.specs.ScriptLists.{script_of, total_of, AreScripts, IsLetterOf, FitAlphabet}
+use Rattle.za_script.proofs.Totals.{total_of-append, AreScripts-append}
 use Rattle.za_lang.specs.Private.Gathering.{AreAdded}
 
--- one letter more
-pub added_one : (alphabet : DistributedAlphabet) (old new : List (List ℕ)) (p a : ℕ) → p < length old → AreScripts old → total_of old < most_script_letters →
+pub all_run : (P : ℕ → Type 0) (n a : ℕ) → P a → All P (replicate n a)
+all_run P zero a h = All-nil P
+all_run P (suc n) a h = All-cons P a (replicate n a) h (all_run P n a h)
+
+-- so many of a letter more
+pub added_run : (alphabet : DistributedAlphabet) (old new : List (List ℕ)) (p a count : ℕ) → p < length old → AreScripts old → total_of old + count ≤ most_script_letters →
     a < length alphabet.letters → has (loc_of alphabet a) p ≡ true →
-    new ≡ set old p (script_of old p ++ a ∷ []) → AreAdded alphabet old new p (a ∷ [])
-added_one alphabet old new p a inside limits room known own e =
+    new ≡ set old p (script_of old p ++ replicate count a) → AreAdded alphabet old new p (replicate count a)
+added_run alphabet old new p a count inside limits room known own e =
+    let long : length (replicate count a) ≡ count = length-replicate count a in
     record {
       scripts = e;
-      total = ap total_of e ∙ total_of-add old p a inside ∙ (let s : suc (total_of old) ≡ total_of old + 1 = omega arith in s);
-      own = All-cons (IsLetterOf alphabet p) a [] (record { letter = known; own = own }) (All-nil (IsLetterOf alphabet p));
-      limits = subst AreScripts (sym e) (AreScripts-add old p a inside limits room);
+      total = ap total_of e ∙ total_of-append old p (replicate count a) inside;
+      own = all_run (IsLetterOf alphabet p) count a (record { letter = known; own = own });
+      limits = subst AreScripts (sym e) (AreScripts-append old p (replicate count a) inside limits (omega arith));
     }
 
 set_own : (old : List (List ℕ)) (p : ℕ) → set old p (script_of old p) ≡ old
@@ -90,11 +93,3 @@ added_fit alphabet old new p us inside h fit =
             | inr other ↦ subst (λ s. All (IsLetterOf alphabet q) s) (sym (added_other alphabet old new p q us other h)) (fit.own q there)
           ];
     }
-
--- a letter that can be appended
-pub added_right : (alphabet : DistributedAlphabet) (old : List (List ℕ)) (p : ℕ) (a : Letter) → add_fault alphabet old p a ≡ None →
-    (has (loc_of alphabet a.0) p ≡ true) × (eqb (total_of old) most_script_letters ≡ false)
-added_right alphabet old p a none =
-    let own = none_of_cond (not (has (loc_of alphabet a.0) p)) _ _ none in
-    let room = none_of_cond (eqb (total_of old) most_script_letters) _ _ own.1 in
-    (not-false (has (loc_of alphabet a.0) p) own.0, room.0)

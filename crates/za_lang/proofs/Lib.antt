@@ -1,4 +1,5 @@
 pub mod Places
+pub mod Naming
 pub mod Added
 pub mod Marks
 pub mod Telling

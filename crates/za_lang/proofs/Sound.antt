@@ -1,18 +1,17 @@
 -- Bytes that are not refused are a job: what holds of what lines say, line by line.
-use Rattle.std.proofs.Common.{◌≡◌, ℕ, zero, suc, ◌+◌, ◌*◌, ◌/◌, ◌%◌, ◌<◌, ◌≤◌, Bool, true, false, not, ◌&&◌, ◌==◌, cond, nat_le, inl, inr, List, [], ◌∷◌, ◌++◌, length, refl, sym, ap, subst, ◌∙◌, arith, eqb-true, eq-eqb, append_assoc, length-append, Option, Some, None}
+use Rattle.std.proofs.Common.{◌≡◌, ℕ, zero, suc, ◌+◌, ◌*◌, ◌/◌, ◌%◌, ◌<◌, ◌≤◌, Bool, true, false, not, ◌&&◌, ◌==◌, cond, nat_le, inl, inr, List, [], ◌∷◌, ◌++◌, length, replicate, refl, sym, ap, subst, ◌∙◌, arith, eqb-true, eq-eqb, append_assoc, length-append, Option, Some, None}
 use Rattle.std.specs.Prelude.{All, nat_lt, unwrap_or, is_some, slice_index_or}
 use Rattle.std.specs.List.{cons_option, filter_map}
 use Rattle.std.specs.Option.{option_or, option_map}
 use Rattle.std.proofs.lemmas.Bool.{cases_Bool, cases_lt, or_left, or_cases, ne_eqb}
 use Rattle.std.proofs.lemmas.Bool.Decides.{nat_tests}
-use Rattle.std.proofs.lemmas.List.{append-nil}
-use Rattle.std.proofs.lemmas.List.Elements.{All-nil, All-cons}
+use Rattle.std.proofs.lemmas.List.{append-nil, length-map, length-replicate}
+use Rattle.std.proofs.lemmas.List.Elements.{All-nil, All-cons, All-append}
 use Rattle.std.proofs.lemmas.List.FromFn.{length-map-range_with_len, get_or-map-range_with_len}
 use Rattle.std.proofs.Math.ListN.{get_or-eq_default}
 use Rattle.za_text.specs.Lines.{RawLine, lines_of, is_allowed}
 use Rattle.za_text.specs.Numbers.{numeral_value}
-use Rattle.za_text.specs.declared.kind.Kind.{Kind}
-use Rattle.za_text.specs.declared.kind.Kind.TheVariants.{NoSuchProcess}
+use Rattle.za_alpha.specs.Limits.{most_processes}
 use Rattle.za_alpha.specs.Words.{has}
 use Rattle.za_alpha.specs.Procs.{members, no_process}
 use Rattle.za_alpha.specs.Alphabet.{DistributedAlphabet, NamedLetter, IsDistributed, procs_at, place_of}
@@ -27,25 +26,32 @@ use Rattle.za_dfa.proofs.EnteredLemmas.{target_in-more}
 use Rattle.za_script.specs.Limits.{most_script_letters}
 use Rattle.za_script.specs.Scripts.{total}
 use Rattle.za_script.specs.ScriptLists.{script_of, IsLetterOf}
-use Rattle.za_script.proofs.Totals.{total-same, total-more}
+use Rattle.za_script.proofs.Totals.{total-same, total-longer}
 use Rattle.za_lang.specs.declared.order.Head.{Head}
 use Rattle.za_lang.specs.declared.order.Head.TheVariants as head
 use Rattle.za_lang.specs.declared.order.Place.{Place}
 use Rattle.za_lang.specs.declared.order.Place.TheVariants.{AtHeader, AtProcesses, AtFirstLetter, AtLetters, AtStart, AtAccept, AtRows, AtScripts, AfterEnd}
 use Rattle.za_lang.specs.Jobs.{IsJob}
-use Rattle.za_lang.specs.Limits.{document_processes, document_letters, document_states}
+use Rattle.za_lang.specs.declared.version.Version.{Version}
+use Rattle.za_lang.specs.Items.{item_of, run_of, letters_of_items}
+use Rattle.za_lang.specs.Limits.{document_letters, document_states}
+use Rattle.za_lang.specs.Namings.{Naming, IsNaming}
 use Rattle.za_lang.specs.Order.{head_of, next_place, order_fault}
-use Rattle.za_lang.specs.Tests.{processes_fault, processes_line_fault, process_fault, loc_fault, some_loc_fault, kind_of_name, letter_line_fault, states_fault, states_line_fault, state_fault, start_line_fault, named_fault, new_row_fault, row_line_fault, step_fault, steps_fault, script_fault, script_line_fault}
-use Rattle.za_lang.specs.Documents.{Said, Step, said, words_in, first_number, start_said, rows_said, row_of, steps_said, steps_of, named_step, letter_of, script_of_steps, scripts_said, job_said, own_fault, words_fault, line_fault, next_fault, end_fault, faults_from}
+use Rattle.za_lang.specs.Tests.{processes_line_fault, process_at, process_fault, loc_fault, some_loc_fault, kind_of_name, letter_line_fault, states_fault, states_line_fault, state_fault, start_line_fault, named_fault, new_row_fault, row_line_fault, step_fault, items_fault, script_items_fault, script_line_fault}
+use Rattle.za_lang.specs.Documents.{Said, Step, said, version_of, names_of, words_in, first_number, start_said, rows_said, row_of, steps_said, steps_of, letter_of, script_of_steps, scripts_said, job_said, own_fault, words_fault, line_fault, next_fault, end_fault, faults_from}
 use Rattle.za_lang.specs.Private.Gathering.{more_said, more}
 use Rattle.za_lang.specs.Private.Letters.{AreFew}
 use Rattle.za_lang.specs.Private.Reading.{nothing}
 use Rattle.za_lang.specs.Laws.{DocumentsAreJobs}
 use Rattle.za_lang.proofs.Places.{place_within}
-use Rattle.za_lang.proofs.Saying.{said_none, said_more}
+use Rattle.za_lang.proofs.Saying.{said_none, said_more, said_version}
+use Rattle.za_lang.proofs.Added.{all_run}
+use Rattle.za_lang.proofs.StepFaults.{step_size, step_some}
+use Rattle.za_lang.proofs.Telling.{steps_at}
+use Rattle.za_lang.proofs.Naming.{true_of_cond, bounds, process_right, names_right, processes_limit, letters_limit, states_limit}
 
 abbrev alphabet_said : Said → DistributedAlphabet
-alphabet_said s = record { processes = s.processes; letters = s.letters }
+alphabet_said s = record { processes = length s.naming.names; letters = s.letters }
 
 -- each script letter is one of its process
 abbrev AreOwn : DistributedAlphabet → List Step → Type 0
@@ -62,14 +68,16 @@ record IsBare (s : Said) : Type 0 where
 record IsStarted (s : Said) : Type 0 where
   bare : IsBare s
   begun : IsBegun (alphabet_said s)
-  few : AreFew (alphabet_said s)
+  few : AreFew s.naming.version (alphabet_said s)
+  named : IsNaming s.naming (length s.naming.names)
 
 -- all is said that a job needs
 record IsWhole (s : Said) : Type 0 where
   distributed : IsDistributed (alphabet_said s)
-  few : AreFew (alphabet_said s)
+  few : AreFew s.naming.version (alphabet_said s)
+  named : IsNaming s.naming (length s.naming.names)
   some_state : 1 ≤ s.states
-  few_states : s.states ≤ document_states
+  few_states : s.states ≤ document_states s.naming.version
   starts : s.start < s.states
   targets : (q a t : ℕ) → target_in s.rows q a ≡ Some t → t < s.states
   own : AreOwn (alphabet_said s) s.steps
@@ -89,34 +97,18 @@ IsSound AfterEnd s = IsWhole s
 
 -- ---- tests that are passed
 
-true_of_cond : (b : Bool) (kind : Kind) → cond b None (Some kind) ≡ None → b ≡ true
-true_of_cond true kind h = refl
-true_of_cond false kind h = absurd (cc)
-
 none_of_map : {X Y : Type 0} (f : X → Y) (o : Option X) → option_map f o ≡ None → o ≡ None
 none_of_map f None h = refl
 none_of_map f (Some x) h = absurd (let e : is_some (option_map f (Some x)) ≡ false = ap is_some h in cc)
 
-bounds : (n limit : ℕ) → (nat_le 1 n && nat_le n limit) ≡ true → (1 ≤ n) × (n ≤ limit)
-bounds n limit h = (grind (arith, nat_tests), grind (arith, nat_tests))
+states_count : (v : Version) (o : Option ℕ) → states_fault v o ≡ None → (n : ℕ) × (o ≡ Some n) × (1 ≤ n) × (n ≤ document_states v)
+states_count v None h = absurd (cc)
+states_count v (Some n) h = let b = bounds n (document_states v) (true_of_cond (nat_le 1 n && nat_le n (document_states v)) _ h) in (n, refl, b.0, b.1)
 
-count_right : (o : Option ℕ) → processes_fault o ≡ None → (n : ℕ) × (o ≡ Some n) × (1 ≤ n) × (n ≤ document_processes)
-count_right None h = absurd (cc)
-count_right (Some n) h = let b = bounds n document_processes (true_of_cond (nat_le 1 n && nat_le n document_processes) _ h) in (n, refl, b.0, b.1)
-
-processes_right : (words : List (List ℕ)) → processes_line_fault words ≡ None → (n : ℕ) × (first_number words ≡ Some n) × (1 ≤ n) × (n ≤ document_processes)
-processes_right [] h = absurd (cc)
-processes_right (word ∷ []) h = count_right (numeral_value word) h
-processes_right (word ∷ x ∷ words) h = absurd (cc)
-
-states_count : (o : Option ℕ) → states_fault o ≡ None → (n : ℕ) × (o ≡ Some n) × (1 ≤ n) × (n ≤ document_states)
-states_count None h = absurd (cc)
-states_count (Some n) h = let b = bounds n document_states (true_of_cond (nat_le 1 n && nat_le n document_states) _ h) in (n, refl, b.0, b.1)
-
-states_right : (words : List (List ℕ)) → states_line_fault words ≡ None → (n : ℕ) × (first_number words ≡ Some n) × (1 ≤ n) × (n ≤ document_states)
-states_right [] h = absurd (cc)
-states_right (word ∷ []) h = states_count (numeral_value word) h
-states_right (word ∷ x ∷ words) h = absurd (cc)
+states_right : (v : Version) (words : List (List ℕ)) → states_line_fault v words ≡ None → (n : ℕ) × (first_number words ≡ Some n) × (1 ≤ n) × (n ≤ document_states v)
+states_right v [] h = absurd (cc)
+states_right v (word ∷ []) h = states_count v (numeral_value word) h
+states_right v (word ∷ x ∷ words) h = absurd (cc)
 
 state_right : (states : ℕ) (o : Option ℕ) → state_fault states o ≡ None → (q : ℕ) × (o ≡ Some q) × (q < states)
 state_right states None h = absurd (cc)
@@ -129,36 +121,34 @@ start_right states (word ∷ x ∷ words) h = absurd (cc)
 
 -- ---- processes of a letter
 
-process_below : (n p : ℕ) (o : Option ℕ) (ps : List ℕ) → process_fault n o ≡ None → has (cons_option o ps) p ≡ true → (has ps p ≡ true → p < n) → p < n
-process_below n p None ps h t rest = absurd (cc)
-process_below n p (Some q) ps h t rest =
-    let below = true_of_cond (nat_lt q n) _ h in
-    elim (or_cases (q == p) (has ps p) t) [ inl e ↦ let same = eqb-true q p e in grind (arith, nat_tests) | inr later ↦ rest later ]
+procs_below : (naming : Naming) (words : List (List ℕ)) → loc_fault naming words ≡ None → (p : ℕ) → has (filter_map (process_at naming) words) p ≡ true → p < length naming.names
+procs_below naming [] h p t = absurd (cc)
+procs_below naming (word ∷ words) h p t =
+    let parts = none_of_or (process_fault naming word) (loc_fault naming words) h in
+    let q = process_right naming word parts.0 in
+    let rest : List ℕ = filter_map (process_at naming) words in
+    let there : has (q.0 ∷ rest) p ≡ true = ap (λ o. has (cons_option o rest) p) (sym q.1) ∙ t in
+    elim (or_cases (q.0 == p) (has rest p) there) [ inl e ↦ let same = eqb-true q.0 p e in let below = q.2 in omega arith | inr later ↦ procs_below naming words parts.1 p later ]
 
-procs_below : (n : ℕ) (words : List (List ℕ)) → loc_fault n words ≡ None → (p : ℕ) → has (filter_map numeral_value words) p ≡ true → p < n
-procs_below n [] h p t = absurd (cc)
-procs_below n (word ∷ words) h p t =
-    let parts = none_of_or (process_fault n (numeral_value word)) (loc_fault n words) h in
-    process_below n p (numeral_value word) (filter_map numeral_value words) parts.0 t (procs_below n words parts.1 p)
-
-first_process : (n : ℕ) (o : Option ℕ) (ps : List ℕ) → process_fault n o ≡ None → (p : ℕ) × (has (cons_option o ps) p ≡ true)
-first_process n None ps h = absurd (cc)
-first_process n (Some q) ps h = (q, or_left (q == q) (has ps q) (eq-eqb q q refl))
-
--- the processes of a letter line are below n, and there is one
+-- the processes of a letter line are processes, and there is one
 record AreProcesses (n : ℕ) (ps : List ℕ) : Type 0 where
   below : (p : ℕ) → has ps p ≡ true → p < n
   some : (p : ℕ) × (has ps p ≡ true)
 
-procs_right : (n : ℕ) (words : List (List ℕ)) → some_loc_fault n words ≡ None → AreProcesses n (filter_map numeral_value words)
-procs_right n [] h = absurd (cc)
-procs_right n (word ∷ words) h =
-    let parts = none_of_or (process_fault n (numeral_value word)) (loc_fault n words) h in
-    record { below = procs_below n (word ∷ words) h; some = first_process n (numeral_value word) (filter_map numeral_value words) parts.0 }
+procs_right : (naming : Naming) (words : List (List ℕ)) → some_loc_fault naming words ≡ None → AreProcesses (length naming.names) (filter_map (process_at naming) words)
+procs_right naming [] h = absurd (cc)
+procs_right naming (word ∷ words) h =
+    let parts = none_of_or (process_fault naming word) (loc_fault naming words) h in
+    let q = process_right naming word parts.0 in
+    let rest : List ℕ = filter_map (process_at naming) words in
+    record {
+      below = procs_below naming (word ∷ words) h;
+      some = (q.0, ap (λ o. has (cons_option o rest) q.0) q.1 ∙ or_left (q.0 == q.0) (has rest q.0) (eq-eqb q.0 q.0 refl));
+    }
 
 -- ---- lines up to the states line
 
-still_bare : (s : Said) (h : Head) (words : List (List ℕ)) → start_said s.start h words ≡ s.start → rows_said s.letters h words ≡ [] → steps_said s.letters h words ≡ [] →
+still_bare : (s : Said) (h : Head) (words : List (List ℕ)) → start_said s.start h words ≡ s.start → rows_said s.letters h words ≡ [] → steps_said s.naming s.letters h words ≡ [] →
     IsBare s → IsBare (more_said s h words)
 still_bare s h words start rows steps bare =
     record {
@@ -167,7 +157,7 @@ still_bare s h words start rows steps bare =
       steps = ap (λ xs. s.steps ++ xs) steps ∙ append-nil s.steps ∙ bare.steps;
     }
 
-no_letters : (n : ℕ) → 1 ≤ n → n ≤ document_processes → IsBegun (record { processes = n; letters = [] })
+no_letters : (n : ℕ) → 1 ≤ n → n ≤ most_processes → IsBegun (record { processes = n; letters = [] })
 no_letters n some few =
     record {
       some_process = omega arith;
@@ -179,32 +169,38 @@ no_letters n some few =
       located = record { some = λ a l. absurd (omega arith); below = λ a p l t. absurd (omega arith) };
     }
 
-after_processes : (s : Said) (words : List (List ℕ)) → processes_line_fault words ≡ None → IsSound AtProcesses s → IsStarted (more_said s head.Processes words)
+after_processes : (s : Said) (words : List (List ℕ)) → processes_line_fault s.naming.version words ≡ None → IsSound AtProcesses s → IsStarted (more_said s head.Processes words)
 after_processes s words w h =
-    let r = processes_right words w in
-    let n : ℕ = r.0 in
-    let made : ℕ → List NamedLetter → DistributedAlphabet = λ m ls. record { processes = m; letters = ls } in
-    let count : unwrap_or (first_number words) s.processes ≡ n = ap (λ o. unwrap_or o s.processes) r.1 in
+    let v = s.naming.version in
+    let r = names_right v words w in
+    let n : ℕ = length (names_of v words) in
+    let made : List NamedLetter → DistributedAlphabet = λ ls. record { processes = n; letters = ls } in
     let none : s.letters ++ [] ≡ [] = append-nil s.letters ∙ h.1 in
-    let few : AreFew (made n []) = record { processes = r.3; letters = omega arith } in
+    let few : AreFew v (made []) = record { processes = r.few; letters = omega arith } in
+    let most = processes_limit v in
+    let count = r.few in
     record {
       bare = still_bare s head.Processes words refl refl refl h.0;
-      begun = subst (λ m. IsBegun (made m (s.letters ++ []))) (sym count) (subst (λ ls. IsBegun (made n ls)) (sym none) (no_letters n r.2 r.3));
-      few = subst (λ m. AreFew (made m (s.letters ++ []))) (sym count) (subst (λ ls. AreFew (made n ls)) (sym none) few);
+      begun = subst (λ ls. IsBegun (made ls)) (sym none) (no_letters n r.some (omega arith));
+      few = subst (λ ls. AreFew v (made ls)) (sym none) few;
+      named = r.naming;
     }
 
-after_letter : (s : Said) (words : List (List ℕ)) → letter_line_fault s.processes s.letters words ≡ None → IsStarted s → IsSound AtLetters (more_said s head.Letter words)
+after_letter : (s : Said) (words : List (List ℕ)) → letter_line_fault s.naming s.letters words ≡ None → IsStarted s → IsSound AtLetters (more_said s head.Letter words)
 after_letter s [] w h = absurd (cc)
 after_letter s (name ∷ words) w h =
-    let ps : List ℕ = filter_map numeral_value words in
-    let l : NamedLetter = letter_of name words in
-    let room = none_of_cond (nat_le document_letters (length s.letters)) _ _ w in
+    let v = s.naming.version in
+    let ps : List ℕ = filter_map (process_at s.naming) words in
+    let l : NamedLetter = letter_of s.naming name words in
+    let room = none_of_cond (nat_le (document_letters v) (length s.letters)) _ _ w in
     let full = room.0 in
-    let parts = none_of_or (option_map kind_of_name (name_fault s.letters name)) (some_loc_fault s.processes words) room.1 in
-    let procs = procs_right s.processes words parts.1 in
+    let parts = none_of_or (option_map kind_of_name (name_fault s.letters name)) (some_loc_fault s.naming words) room.1 in
+    let procs = procs_right s.naming words parts.1 in
     let limit = h.few.processes in
+    let most = processes_limit v in
+    let most_ls = letters_limit v in
     let low : (p : ℕ) → has ps p ≡ true → p < 16 = λ p t. let b = procs.below p t in omega arith in
-    let fits : length s.letters < document_letters = grind (arith, nat_tests) in
+    let fits : length s.letters < document_letters v = grind (arith, nat_tests) in
     let next : IsNextLetter (alphabet_said s) l = record {
       named = none_of_map kind_of_name (name_fault s.letters name) parts.0;
       room = omega arith;
@@ -217,14 +213,15 @@ after_letter s (name ∷ words) w h =
         bare = still_bare s head.Letter (name ∷ words) refl refl refl h.bare;
         begun = begun-more (alphabet_said s) l h.begun next;
         few = record { processes = limit; letters = omega arith };
+        named = h.named;
       },
       omega arith,
     )
 
 -- the states line, after which all is there that a job needs
-after_states : (s : Said) (words : List (List ℕ)) → states_line_fault words ≡ None → IsSound AtLetters s → IsWhole (more_said s head.States words)
+after_states : (s : Said) (words : List (List ℕ)) → states_line_fault s.naming.version words ≡ None → IsSound AtLetters s → IsWhole (more_said s head.States words)
 after_states s words w h =
-    let r = states_right words w in
+    let r = states_right s.naming.version words w in
     let n : ℕ = r.0 in
     let some = r.2 in
     let begun = h.0.begun in
@@ -245,6 +242,7 @@ after_states s words w h =
         located = begun.located;
       };
       few = h.0.few;
+      named = h.0.named;
       some_state = some;
       few_states = r.3;
       starts = omega arith;
@@ -265,6 +263,7 @@ after_start s words w h =
     let own : IsWhole t = record {
       distributed = h.distributed;
       few = h.few;
+      named = h.named;
       some_state = h.some_state;
       few_states = h.few_states;
       starts = r.2;
@@ -281,6 +280,7 @@ after_accept s words h =
     let own : IsWhole t = record {
       distributed = h.distributed;
       few = h.few;
+      named = h.named;
       some_state = h.some_state;
       few_states = h.few_states;
       starts = h.starts;
@@ -297,6 +297,7 @@ after_end s words h =
     let own : IsWhole t = record {
       distributed = h.distributed;
       few = h.few;
+      named = h.named;
       some_state = h.some_state;
       few_states = h.few_states;
       starts = h.starts;
@@ -348,6 +349,7 @@ after_row s words w h =
     let own : IsWhole t = record {
       distributed = h.distributed;
       few = h.few;
+      named = h.named;
       some_state = h.some_state;
       few_states = h.few_states;
       starts = h.starts;
@@ -367,46 +369,69 @@ record AreSteps (alphabet : DistributedAlphabet) (read : ℕ) (steps : List Step
   own : AreOwn alphabet steps
   few : read + length steps ≤ most_script_letters
 
-step_room : (letters : List NamedLetter) (p read : ℕ) (o : Option ℕ) → step_fault letters p read o ≡ None → read < most_script_letters
-step_room letters p read None h = absurd (cc)
-step_room letters p read (Some a) h =
-    let own = none_of_cond (not (has (members (procs_at letters a)) p)) _ _ h in
-    let room = none_of_cond (nat_le most_script_letters read) _ _ own.1 in
-    let full = room.0 in grind (arith, nat_tests)
+-- letters of a process, for which there is room
+record AreFound (alphabet : DistributedAlphabet) (p read : ℕ) (found : List ℕ) : Type 0 where
+  own : All (IsLetterOf alphabet p) found
+  few : read + length found ≤ most_script_letters
 
-step_more : (alphabet : DistributedAlphabet) (p read : ℕ) (o : Option ℕ) (rest : List Step) → ((a : ℕ) → o ≡ Some a → a < length alphabet.letters) → step_fault alphabet.letters p read o ≡ None →
-    AreSteps alphabet (read + 1) rest → AreSteps alphabet read (cons_option (option_map (λ (a : ℕ). record { process = p; letter = a }) o) rest)
-step_more alphabet p read None rest known h s = absurd (cc)
-step_more alphabet p read (Some a) rest known h s =
+run_found : (alphabet : DistributedAlphabet) (p read : ℕ) (o count : Option ℕ) → ((a : ℕ) → o ≡ Some a → a < length alphabet.letters) →
+    step_fault alphabet.letters p read o count ≡ None → AreFound alphabet p read (run_of o count)
+run_found alphabet p read None count known h = absurd (let t : true ≡ false = ap is_some h in cc)
+run_found alphabet p read (Some a) None known h = absurd (let t = step_some alphabet.letters p read a h in t)
+run_found alphabet p read (Some a) (Some count) known h =
     let own = none_of_cond (not (has (members (procs_at alphabet.letters a)) p)) _ _ h in
-    let few = s.few in
-    record { own = (record { letter = known a refl; own = not_false (has (members (procs_at alphabet.letters a)) p) own.0 }, s.own); few = omega arith }
+    let room = none_of_cond (nat_lt most_script_letters (read + count)) _ _ own.1 in
+    let full = room.0 in
+    let long : length (replicate count a) ≡ count = length-replicate count a in
+    let fits : read + count ≤ most_script_letters = grind (arith, nat_tests) in
+    record {
+      own = all_run (IsLetterOf alphabet p) count a (record { letter = known a refl; own = not_false (has (members (procs_at alphabet.letters a)) p) own.0 });
+      few = omega arith;
+    }
 
-steps_right : (alphabet : DistributedAlphabet) (p read : ℕ) (names : List (List ℕ)) → read ≤ most_script_letters → steps_fault alphabet.letters p read names ≡ None →
-    AreSteps alphabet read (filter_map (named_step alphabet.letters p) names)
-steps_right alphabet p read [] few h = record { own = tt; few = omega arith }
-steps_right alphabet p read (name ∷ names) few h =
-    let parts = none_of_or (step_fault alphabet.letters p read (place_of alphabet.letters name)) (steps_fault alphabet.letters p (read + 1) names) h in
-    let room = step_room alphabet.letters p read (place_of alphabet.letters name) parts.0 in
-    step_more alphabet p read (place_of alphabet.letters name) (filter_map (named_step alphabet.letters p) names) (place_within alphabet.letters name) parts.0
-    (steps_right alphabet p (read + 1) names (omega arith) parts.1)
+items_found : (v : Version) (alphabet : DistributedAlphabet) (p read : ℕ) (words : List (List ℕ)) → read ≤ most_script_letters → items_fault v alphabet.letters p read words ≡ None →
+    AreFound alphabet p read (letters_of_items v alphabet.letters words)
+items_found v alphabet p read [] few h = record { own = All-nil (IsLetterOf alphabet p); few = omega arith }
+items_found v alphabet p read (word ∷ words) few h =
+    let item = item_of v word in
+    let o = place_of alphabet.letters item.name in
+    let more = read + unwrap_or item.count 0 in
+    let parts = none_of_or (step_fault alphabet.letters p read o item.count) (items_fault v alphabet.letters p more words) h in
+    let first = run_found alphabet p read o item.count (place_within alphabet.letters item.name) parts.0 in
+    let size = step_size alphabet.letters p read o item.count parts.0 in
+    let few_first = first.few in
+    let rest = items_found v alphabet p more words (omega arith) parts.1 in
+    let few_rest = rest.few in
+    let long = length-append (run_of o item.count) (letters_of_items v alphabet.letters words) in
+    record {
+      own = All-append (IsLetterOf alphabet p) (run_of o item.count) (letters_of_items v alphabet.letters words) first.own rest.own;
+      few = omega arith;
+    }
 
-script_by : (alphabet : DistributedAlphabet) (read : ℕ) (o : Option ℕ) (names : List (List ℕ)) → read ≤ most_script_letters → script_fault alphabet.processes alphabet.letters read o names ≡ None →
-    AreSteps alphabet read (steps_of alphabet.letters o names)
-script_by alphabet read None names few h = absurd (cc)
-script_by alphabet read (Some p) names few h = by_test (nat_lt p alphabet.processes) h
-  where
-    by_test : (b : Bool) → cond b (steps_fault alphabet.letters p read names) (Some NoSuchProcess) ≡ None → AreSteps alphabet read (filter_map (named_step alphabet.letters p) names)
-    by_test true h = steps_right alphabet p read names few h
-    by_test false h = absurd (cc)
+found_own : (alphabet : DistributedAlphabet) (p : ℕ) (found : List ℕ) → All (IsLetterOf alphabet p) found → AreOwn alphabet (steps_at p found)
+found_own alphabet p [] h = tt
+found_own alphabet p (a ∷ found) h = (h 0 a (omega arith), found_own alphabet p found (λ k d l. h (suc k) d (omega arith)))
 
-script_steps : (s : Said) (words : List (List ℕ)) → script_line_fault s.processes s.letters (length s.steps) words ≡ None → IsWhole s → AreSteps (alphabet_said s) (length s.steps) (steps_said s.letters head.Script words)
+script_steps : (s : Said) (words : List (List ℕ)) → script_line_fault s.naming s.letters (length s.steps) words ≡ None → IsWhole s →
+    AreSteps (alphabet_said s) (length s.steps) (steps_said s.naming s.letters head.Script words)
 script_steps s [] w h = absurd (cc)
-script_steps s (word ∷ names) w h = script_by (alphabet_said s) (length s.steps) (numeral_value word) names h.few_steps w
+script_steps s (word ∷ words) w h =
+    let v = s.naming.version in
+    let read = length s.steps in
+    let parts = none_of_or (process_fault s.naming word) (script_items_fault v s.letters read (process_at s.naming word) words) w in
+    let p = process_right s.naming word parts.0 in
+    let right : items_fault v s.letters p.0 read words ≡ None = ap (λ o. script_items_fault v s.letters read o words) (sym p.1) ∙ parts.1 in
+    let found = items_found v (alphabet_said s) p.0 read words h.few_steps right in
+    let few = found.few in
+    let size : length (steps_at p.0 (letters_of_items v s.letters words)) ≡ length (letters_of_items v s.letters words) =
+    length-map (letters_of_items v s.letters words) (λ (a : ℕ). record { process = p.0; letter = a }) in
+    let steps : AreSteps (alphabet_said s) read (steps_at p.0 (letters_of_items v s.letters words)) =
+    record { own = found_own (alphabet_said s) p.0 (letters_of_items v s.letters words) found.own; few = omega arith } in
+    subst (λ o. AreSteps (alphabet_said s) read (steps_of v s.letters o words)) (sym p.1) steps
 
-after_script : (s : Said) (words : List (List ℕ)) → script_line_fault s.processes s.letters (length s.steps) words ≡ None → IsWhole s → IsWhole (more_said s head.Script words)
+after_script : (s : Said) (words : List (List ℕ)) → script_line_fault s.naming s.letters (length s.steps) words ≡ None → IsWhole s → IsWhole (more_said s head.Script words)
 after_script s words w h =
-    let new : List Step = steps_said s.letters head.Script words in
+    let new : List Step = steps_said s.naming s.letters head.Script words in
     let steps = script_steps s words w h in
     let few = steps.few in
     let long = length-append s.steps new in
@@ -415,6 +440,7 @@ after_script s words w h =
     let own : IsWhole t = record {
       distributed = h.distributed;
       few = h.few;
+      named = h.named;
       some_state = h.some_state;
       few_states = h.few_states;
       starts = h.starts;
@@ -455,7 +481,7 @@ after_words s (word ∷ words) h sound =
     let parts = none_of_or (order_fault s.place (head_of word)) (own_fault s (head_of word) words) h in
     by_head s.place (head_of word) s words parts.0 parts.1 sound
 
-words_right : (s : Said) (line : RawLine) → line_fault s line ≡ None → words_fault s (words_in line) ≡ None
+words_right : (s : Said) (line : RawLine) → line_fault s line ≡ None → words_fault s (words_in s.naming.version line) ≡ None
 unfolding line_fault
 words_right s line h =
     let whole = none_of_cond (not line.whole) _ _ h in
@@ -472,14 +498,16 @@ at_end AtAccept n s h sound = absurd (cc)
 at_end AtRows n s h sound = absurd (cc)
 at_end AtScripts n s h sound = absurd (cc)
 
-all_right : (before lines : List RawLine) → faults_from before lines ≡ None → IsSound (said before).place (said before) → IsWhole (said (before ++ lines))
-all_right before [] h sound = subst (λ ls. IsWhole (said ls)) (sym (append-nil before)) (at_end (said before).place (length before) (said before) h sound)
-all_right before (line ∷ lines) h sound =
-    let parts = none_of_or (option_map (next_fault (length before)) (line_fault (said before) line)) (faults_from (before ++ line ∷ []) lines) h in
-    let right = words_right (said before) line (none_of_map (next_fault (length before)) (line_fault (said before) line) parts.0) in
-    let next = after_words (said before) (words_in line) right sound in
+all_right : (v : Version) (before lines : List RawLine) → faults_from v before lines ≡ None → IsSound (said v before).place (said v before) → IsWhole (said v (before ++ lines))
+all_right v before [] h sound = subst (λ ls. IsWhole (said v ls)) (sym (append-nil before)) (at_end (said v before).place (length before) (said v before) h sound)
+all_right v before (line ∷ lines) h sound =
+    let s = said v before in
+    let parts = none_of_or (option_map (next_fault (length before)) (line_fault s line)) (faults_from v (before ++ line ∷ []) lines) h in
+    let here = words_right s line (none_of_map (next_fault (length before)) (line_fault s line) parts.0) in
+    let right = subst (λ u. words_fault s (words_in u line) ≡ None) (said_version v before) here in
+    let next = after_words s (words_in v line) right sound in
     let P : Said → Type 0 = λ s. IsSound s.place s in
-    subst (λ ls. IsWhole (said ls)) (append_assoc before (line ∷ []) lines) (all_right (before ++ line ∷ []) lines parts.1 (subst P (sym (said_more before line)) next))
+    subst (λ ls. IsWhole (said v ls)) (append_assoc before (line ∷ []) lines) (all_right v (before ++ line ∷ []) lines parts.1 (subst P (sym (said_more v before line)) next))
 
 -- ---- the job
 
@@ -506,8 +534,8 @@ total_few (step ∷ steps) n =
     λ q ne. let e : (p == q) ≡ false = ne_eqb p q (λ s. ne (sym s)) in rw e refl in
     elim (cases_lt p n) [
       | inl l ↦
-          let longer : length (script_of_steps (step ∷ steps) p) ≡ suc (length (script_of_steps steps p)) = rw own refl in
-          let k = total-more (script_of_steps steps) (script_of_steps (step ∷ steps)) n p l longer other in omega arith
+          let longer : length (script_of_steps (step ∷ steps) p) ≡ length (script_of_steps steps p) + 1 = rw own (omega arith) in
+          let k = total-longer (script_of_steps steps) (script_of_steps (step ∷ steps)) n p 1 l longer other in omega arith
       | inr ge ↦ let k = total-same (script_of_steps (step ∷ steps)) (script_of_steps steps) n (λ q l. other q (λ e. omega arith)) in omega arith
     ]
 
@@ -516,12 +544,14 @@ job_of_whole s h =
     let m : ℕ = length s.letters in
     let f : ℕ → Option ℕ = λ i. target_in s.rows (i / m) (i % m) in
     let scripts : List (List ℕ) = scripts_said s in
-    let many : length scripts ≡ s.processes = length-map-range_with_len (script_of_steps s.steps) 0 s.processes in
-    let script : (p : ℕ) → p < s.processes → script_of scripts p ≡ script_of_steps s.steps p =
-    λ p l. get_or-map-range_with_len (script_of_steps s.steps) 0 s.processes p p [] l (omega arith) in
+    let many : length scripts ≡ length s.naming.names = length-map-range_with_len (script_of_steps s.steps) 0 (length s.naming.names) in
+    let script : (p : ℕ) → p < length s.naming.names → script_of scripts p ≡ script_of_steps s.steps p =
+    λ p l. get_or-map-range_with_len (script_of_steps s.steps) 0 (length s.naming.names) p p [] l (omega arith) in
     let cells : length (cells_of s.states m s.rows) ≡ s.states * m = length-map-range_with_len f 0 (s.states * m) in
     let few = h.few_states in
+    let most = states_limit s.naming.version in
     record {
+      naming = h.named;
       lang = record {
         distributed = h.distributed;
         some_state = h.some_state;
@@ -540,21 +570,22 @@ job_of_whole s h =
       scripts =
           let some = h.distributed.some_process in
           let most = h.distributed.few_processes in
-          let all = total_few s.steps s.processes in
+          let all = total_few s.steps (length s.naming.names) in
           let few_steps = h.few_steps in
-          let same : total (script_of scripts) (length scripts) ≡ total (script_of_steps s.steps) s.processes =
-          ap (total (script_of scripts)) many ∙ total-same (script_of scripts) (script_of_steps s.steps) s.processes (λ p l. ap length (script p l)) in
+          let same : total (script_of scripts) (length scripts) ≡ total (script_of_steps s.steps) (length s.naming.names) =
+          ap (total (script_of scripts)) many ∙ total-same (script_of scripts) (script_of_steps s.steps) (length s.naming.names) (λ p l. ap length (script p l)) in
           record { some_process = omega arith; few_processes = omega arith; few_letters = omega arith };
       fit = record {
         processes = many;
         own = λ p l.
-            let below : p < s.processes = omega arith in
+            let below : p < length s.naming.names = omega arith in
             subst (λ xs. All (IsLetterOf (alphabet_said s) p) xs) (sym (script p below)) (own_script (alphabet_said s) p s.steps h.own);
       };
     }
 
 pub documents_are_jobs : DocumentsAreJobs
 documents_are_jobs bytes right =
-    let none : IsSound AtHeader nothing = (record { start = refl; rows = refl; steps = refl }, refl) in
+    let v = version_of (lines_of bytes) in
+    let none : IsSound AtHeader (nothing v) = (record { start = refl; rows = refl; steps = refl }, refl) in
     let P : Said → Type 0 = λ s. IsSound s.place s in
-    job_of_whole (said (lines_of bytes)) (all_right [] (lines_of bytes) right (subst P (sym said_none) none))
+    job_of_whole (said v (lines_of bytes)) (all_right v [] (lines_of bytes) right (subst P (sym (said_none v)) none))

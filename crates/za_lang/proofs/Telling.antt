@@ -1,19 +1,19 @@
 -- What the job has after a line that is right.
-use Rattle.std.proofs.Common.{◌≡◌, ℕ, suc, ◌<◌, true, false, List, [], ◌∷◌, ◌++◌, length, map, refl, sym, ap, subst, ◌∙◌, arith, inl, inr, length-append, Option, Some, None}
+use Rattle.std.proofs.Common.{◌≡◌, ℕ, ◌<◌, true, false, List, [], ◌∷◌, ◌++◌, length, map, refl, sym, ap, subst, ◌∙◌, arith, inl, inr, length-append, Some}
 use Rattle.std.specs.Prelude.{◌==◌}
-use Rattle.std.specs.List.{filter, filter_map, cons_option}
-use Rattle.std.specs.Option.{option_map}
+use Rattle.std.specs.List.{filter, filter_map}
 use Rattle.std.proofs.lemmas.Bool.{cases_eq}
 use Rattle.std.proofs.lemmas.Bool.Decides.{nat_tests}
-use Rattle.std.proofs.lemmas.List.{append-nil, map-append}
+use Rattle.std.proofs.lemmas.List.{append-nil, map-append, length-map}
 use Rattle.std.proofs.lemmas.List.Elements.{filter-append}
 use Rattle.za_text.specs.Numbers.{numeral_value}
-use Rattle.za_alpha.specs.Alphabet.{NamedLetter, place_of}
 use Rattle.za_script.specs.ScriptLists.{script_of}
 use Rattle.za_lang.specs.declared.order.Head.TheVariants as head
 use Rattle.za_lang.specs.declared.order.Place.TheVariants.{AtRows, AtScripts}
+use Rattle.za_lang.specs.Items.{letters_of_items}
 use Rattle.za_lang.specs.Jobs.{JobData}
-use Rattle.za_lang.specs.Documents.{Said, Step, named_step, script_of_steps}
+use Rattle.za_lang.specs.Tests.{process_at}
+use Rattle.za_lang.specs.Documents.{Said, Step, script_of_steps}
 use Rattle.za_lang.specs.Private.Gathering.{more_said, marked, AreAdded, Tells}
 use Rattle.za_lang.proofs.Marks.{marked_all}
 use Rattle.za_lang.proofs.Added.{added_same, added_other}
@@ -26,6 +26,7 @@ accept_told job s words h =
     let t : Said = record s { place = AtRows; accepts = s.accepts ++ filter_map numeral_value words } in
     let same : t ≡ more_said s head.Accept words = simp append-nil in
     let own : Tells new t = record {
+      naming = h.naming;
       processes = h.processes;
       letters = h.letters;
       states = h.states;
@@ -42,49 +43,32 @@ joined_append xs ys q =
     ap (map (λ (step : Step). step.letter)) (filter-append (λ (step : Step). step.process == q) xs ys)
     ∙ map-append (λ (step : Step). step.letter) (filter (λ (step : Step). step.process == q) xs) (filter (λ (step : Step). step.process == q) ys)
 
-own_at : (o : Option ℕ) (p q : ℕ) (steps : List Step) (found : List ℕ) → (p == q) ≡ true → script_of_steps steps q ≡ found
-    → script_of_steps (cons_option (option_map (λ (a : ℕ). record { process = p; letter = a }) o) steps) q ≡ cons_option o found
-own_at None p q steps found e h = h
-own_at (Some a) p q steps found e h = rw e (ap (λ xs. a ∷ xs) h)
-
-other_at : (o : Option ℕ) (p q : ℕ) (steps : List Step) → (p == q) ≡ false → script_of_steps steps q ≡ []
-    → script_of_steps (cons_option (option_map (λ (a : ℕ). record { process = p; letter = a }) o) steps) q ≡ []
-other_at None p q steps e h = h
-other_at (Some a) p q steps e h = rw e h
-
-length_at : (o : Option ℕ) (p : ℕ) (steps : List Step) (found : List ℕ) → length steps ≡ length found
-    → length (cons_option (option_map (λ (a : ℕ). record { process = p; letter = a }) o) steps) ≡ length (cons_option o found)
-length_at None p steps found h = h
-length_at (Some a) p steps found h = ap suc h
+-- the steps of a process
+abbrev pub steps_at : ℕ → List ℕ → List Step
+steps_at p found = map (λ (a : ℕ). record { process = p; letter = a }) found
 
 -- the letters that a script line says, for its process
-joined_own : (letters : List NamedLetter) (p q : ℕ) (names : List (List ℕ)) → (p == q) ≡ true →
-    script_of_steps (filter_map (named_step letters p) names) q ≡ filter_map (place_of letters) names
-joined_own letters p q [] e = refl
-joined_own letters p q (name ∷ names) e = own_at (place_of letters name) p q (filter_map (named_step letters p) names) (filter_map (place_of letters) names) e (joined_own letters p q names e)
+joined_own : (p q : ℕ) (found : List ℕ) → (p == q) ≡ true → script_of_steps (steps_at p found) q ≡ found
+joined_own p q [] e = refl
+joined_own p q (a ∷ found) e = rw e (ap (λ xs. a ∷ xs) (joined_own p q found e))
 
 -- and for another
-joined_other : (letters : List NamedLetter) (p q : ℕ) (names : List (List ℕ)) → (p == q) ≡ false →
-    script_of_steps (filter_map (named_step letters p) names) q ≡ []
-joined_other letters p q [] e = refl
-joined_other letters p q (name ∷ names) e = other_at (place_of letters name) p q (filter_map (named_step letters p) names) e (joined_other letters p q names e)
-
-steps_length : (letters : List NamedLetter) (p : ℕ) (names : List (List ℕ)) →
-    length (filter_map (named_step letters p) names) ≡ length (filter_map (place_of letters) names)
-steps_length letters p [] = refl
-steps_length letters p (name ∷ names) = length_at (place_of letters name) p (filter_map (named_step letters p) names) (filter_map (place_of letters) names) (steps_length letters p names)
+joined_other : (p q : ℕ) (found : List ℕ) → (p == q) ≡ false → script_of_steps (steps_at p found) q ≡ []
+joined_other p q [] e = refl
+joined_other p q (a ∷ found) e = rw e (joined_other p q found e)
 
 -- a script line
-pub script_told : (job : JobData) (new : List (List ℕ)) (s : Said) (word : List ℕ) (names : List (List ℕ)) (p : ℕ) → Tells job s → p < length job.scripts →
-    numeral_value word ≡ Some p →
-    AreAdded job.lang.alphabet job.scripts new p (filter_map (place_of s.letters) names) → Tells (record job { scripts = new }) (more_said s head.Script (word ∷ names))
-script_told job new s word names p h inside e added =
-    let more = filter_map (named_step s.letters p) names in
-    let found = filter_map (place_of s.letters) names in
+pub script_told : (job : JobData) (new : List (List ℕ)) (s : Said) (word : List ℕ) (words : List (List ℕ)) (p : ℕ) → Tells job s → p < length job.scripts →
+    process_at s.naming word ≡ Some p →
+    AreAdded job.lang.alphabet job.scripts new p (letters_of_items s.naming.version s.letters words) → Tells (record job { scripts = new }) (more_said s head.Script (word ∷ words))
+script_told job new s word words p h inside e added =
+    let found = letters_of_items s.naming.version s.letters words in
+    let more = steps_at p found in
     let t : Said = record s { place = AtScripts; steps = s.steps ++ more } in
-    let same : t ≡ more_said s head.Script (word ∷ names) = rw e (simp append-nil) in
+    let same : t ≡ more_said s head.Script (word ∷ words) = rw e (simp append-nil) in
     let put : JobData = record job { scripts = new } in
     let own : Tells put t = record {
+      naming = h.naming;
       processes = h.processes;
       letters = h.letters;
       states = h.states;
@@ -97,12 +81,12 @@ script_told job new s word names p h inside e added =
                 let yes : (p == q) ≡ true = grind (arith, nat_tests) in
                 ap (script_of new) same_process ∙ added_same job.lang.alphabet job.scripts new p found inside added
                 ∙ ap (λ xs. xs ++ found) (ap (script_of job.scripts) (sym same_process) ∙ h.steps q k)
-                ∙ sym (joined_append s.steps more q ∙ ap (λ xs. script_of_steps s.steps q ++ xs) (joined_own s.letters p q names yes))
+                ∙ sym (joined_append s.steps more q ∙ ap (λ xs. script_of_steps s.steps q ++ xs) (joined_own p q found yes))
             | inr other ↦
                 let no : (p == q) ≡ false = grind (arith, nat_tests) in
                 added_other job.lang.alphabet job.scripts new p q found other added ∙ h.steps q k
-                ∙ sym (joined_append s.steps more q ∙ ap (λ xs. script_of_steps s.steps q ++ xs) (joined_other s.letters p q names no) ∙ append-nil (script_of_steps s.steps q))
+                ∙ sym (joined_append s.steps more q ∙ ap (λ xs. script_of_steps s.steps q ++ xs) (joined_other p q found no) ∙ append-nil (script_of_steps s.steps q))
           ];
-      total = let a = added.total in let b = h.total in let c = steps_length s.letters p names in let d = length-append s.steps more in omega arith;
+      total = let a = added.total in let b = h.total in let c : length more ≡ length found = length-map found (λ (a : ℕ). record { process = p; letter = a }) in let d = length-append s.steps more in omega arith;
     } in
     subst (Tells put) same own

@@ -11,9 +11,9 @@ use Rattle.za_lang.specs.declared.fault.Refusal.TheVariants as refusal
 use Rattle.za_lang.specs.Jobs.{JobData}
 use Rattle.za_lang.specs.Documents.{fault_of}
 
--- the language and the scripts of a job
+-- the names, the language and the scripts of a job
 abbrev pub data_of : Job → JobData
-data_of job = record { lang = job.lang; scripts = job.scripts }
+data_of job = record { naming = job.lang.naming; lang = job.lang.table; scripts = job.scripts }
 
 -- the text is refused so, unless memory was refused
 abbrev pub IsRefused : List ℕ → JobFault → Type 0

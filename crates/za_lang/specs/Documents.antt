@@ -1,11 +1,13 @@
 -- Documents: what their lines say, the first wrong line, and the job that is gathered from the lines.
-use Rattle.std.specs.Prelude.{ℕ, ◌+◌, ◌==◌, ◌++◌, not, Bool, List, [], ◌∷◌, length, map}
+use Rattle.std.specs.Prelude.{ℕ, ◌+◌, ◌==◌, ◌++◌, not, Bool, false, List, [], ◌∷◌, length, map, codes}
 use Rattle.std.specs.Prelude.{filter, Option, Some, None, if◌then◌else◌, fold, unwrap_or}
 use Rattle.std.specs.List.{list_all, flat_map, filter_map, range_with_len}
 use Rattle.std.specs.Option.{option_or, option_map}
+use Rattle.std.specs.Str.{bytes_eq}
 use Rattle.za_text.specs.Lines.{RawLine, lines_of, is_allowed}
 use Rattle.za_text.specs.Words.{words_of}
 use Rattle.za_text.specs.Numbers.{numeral_value}
+use Rattle.za_text.specs.ProcessNames.{numbered}
 use Rattle.za_text.specs.declared.kind.Kind.{Kind}
 use Rattle.za_text.specs.declared.kind.Kind.TheVariants.{Cut, BadByte, OutOfOrder, NoEnd}
 use Rattle.za_text.specs.declared.kind.TextFault.{TextFault}
@@ -20,13 +22,46 @@ use Rattle.za_lang.specs.declared.order.Head.TheVariants.{Zla, Processes, Letter
 use Rattle.za_lang.specs.declared.order.Head.TheVariants.{Accept, Row, Script, End, Other}
 use Rattle.za_lang.specs.declared.order.Place.{Place}
 use Rattle.za_lang.specs.declared.order.Place.TheVariants.{AtHeader, AfterEnd}
+use Rattle.za_lang.specs.declared.version.Version.{Version}
+use Rattle.za_lang.specs.declared.version.Version.TheVariants.{One, Two}
+use Rattle.za_lang.specs.Items.{letters_of_items}
 use Rattle.za_lang.specs.Jobs.{JobData}
+use Rattle.za_lang.specs.Namings.{Naming}
 use Rattle.za_lang.specs.Order.{head_of, next_place, order_fault}
 use Rattle.za_lang.specs.Tests.{header_line_fault, processes_line_fault, letter_line_fault, states_line_fault}
 use Rattle.za_lang.specs.Tests.{start_line_fault, accept_line_fault, row_line_fault, script_line_fault, end_line_fault}
+use Rattle.za_lang.specs.Tests.{process_at}
 
-abbrev pub words_in : RawLine → List (List ℕ)
-words_in line = words_of line.text
+-- The version, and the words of a line in that version.
+
+-- the version that a line says, by its first word and the words after it
+abbrev pub version_said : Head → List (List ℕ) → Version
+version_said Zla (word ∷ []) = if bytes_eq word (codes "2") then Two else One
+version_said _ _ = One
+
+-- the version that a line says, and where it has no words that of the lines after it
+abbrev pub version_by : Version → List (List ℕ) → Version
+version_by later [] = later
+version_by later (word ∷ words) = version_said (head_of word) words
+
+-- the version of a text: 2 if its first line with words is `zla 2`, and else 1
+abbrev pub version_of : List RawLine → Version
+version_of [] = One
+version_of (line ∷ lines) = version_by (version_of lines) (words_of line.text)
+
+-- whether a first word begins a comment, which only version 2 has: with a `#`
+abbrev pub begins_comment : Version → List ℕ → Bool
+begins_comment One word = false
+begins_comment Two [] = false
+begins_comment Two (b ∷ bs) = b == 35
+
+-- the words but for those of a comment
+abbrev pub but_comments : Version → List (List ℕ) → List (List ℕ)
+but_comments version [] = []
+but_comments version (word ∷ words) = if begins_comment version word then [] else word ∷ words
+
+abbrev pub words_in : Version → RawLine → List (List ℕ)
+words_in version line = but_comments version (words_of line.text)
 
 -- What lines say: each notion by the words of the lines, be they right or wrong.
 
@@ -36,42 +71,57 @@ place_by place [] = place
 place_by place (word ∷ words) = next_place place (head_of word)
 
 -- the place that lines lead to
-abbrev pub place_after : List RawLine → Place
-place_after lines = fold (λ place line. place_by place (words_in line)) AtHeader lines
+abbrev pub place_after : Version → List RawLine → Place
+place_after version lines = fold (λ place line. place_by place (words_in version line)) AtHeader lines
 
 -- the number that words begin with
 abbrev pub first_number : List (List ℕ) → Option ℕ
 first_number [] = None
 first_number (word ∷ words) = numeral_value word
 
--- the number of processes that a line says, and else that said before
-abbrev pub processes_said : ℕ → Head → List (List ℕ) → ℕ
-processes_said n Processes words = unwrap_or (first_number words) n
-processes_said n _ _ = n
+-- the names of the processes by the words of a processes line
+abbrev pub names_of : Version → List (List ℕ) → List (List ℕ)
+names_of One words = numbered (unwrap_or (first_number words) 0)
+names_of Two words = words
 
-abbrev pub processes_by : ℕ → List (List ℕ) → ℕ
-processes_by n [] = n
-processes_by n (word ∷ words) = processes_said n (head_of word) words
+-- the names that a line says, and else those said before
+abbrev pub names_said : Version → List (List ℕ) → Head → List (List ℕ) → List (List ℕ)
+names_said version names Processes words = names_of version words
+names_said version names _ _ = names
 
-abbrev pub processes_in : List RawLine → ℕ
-processes_in lines = fold (λ n line. processes_by n (words_in line)) 0 lines
+abbrev pub names_by : Version → List (List ℕ) → List (List ℕ) → List (List ℕ)
+names_by version names [] = names
+names_by version names (word ∷ words) = names_said version names (head_of word) words
 
--- a letter: its name, and the set of the processes that are named
-abbrev pub letter_of : List ℕ → List (List ℕ) → NamedLetter
-letter_of name processes = record { name = name; loc = set_of (filter_map numeral_value processes) }
+abbrev pub names_in : Version → List RawLine → List (List ℕ)
+names_in version lines = fold (λ names line. names_by version names (words_in version line)) [] lines
 
--- the letter that a line says
-abbrev pub letters_said : Head → List (List ℕ) → List NamedLetter
-letters_said Letter (name ∷ processes) = letter_of name processes ∷ []
-letters_said _ _ = []
+abbrev pub naming_in : Version → List RawLine → Naming
+naming_in version lines = record { version = version; names = names_in version lines }
 
-abbrev pub letters_by : List (List ℕ) → List NamedLetter
-letters_by [] = []
-letters_by (word ∷ words) = letters_said (head_of word) words
+-- a letter: its name, and the set of the processes that are meant
+abbrev pub letter_of : Naming → List ℕ → List (List ℕ) → NamedLetter
+letter_of naming name processes =
+    record { name = name; loc = set_of (filter_map (process_at naming) processes) }
+
+-- the letter that a line says over these processes
+abbrev pub letters_said : Naming → Head → List (List ℕ) → List NamedLetter
+letters_said naming Letter (name ∷ processes) = letter_of naming name processes ∷ []
+letters_said naming _ _ = []
+
+abbrev pub letters_by : Naming → List (List ℕ) → List NamedLetter
+letters_by naming [] = []
+letters_by naming (word ∷ words) = letters_said naming (head_of word) words
+
+-- the letters of lines that come after others, each over the processes before it
+abbrev pub letters_from : Version → List RawLine → List RawLine → List NamedLetter
+letters_from version before [] = []
+letters_from version before (line ∷ lines) =
+    letters_by (naming_in version before) (words_in version line) ++ letters_from version (before ++ line ∷ []) lines
 
 -- the letters of all letter lines, in order
-abbrev pub letters_in : List RawLine → List NamedLetter
-letters_in lines = flat_map (λ line. letters_by (words_in line)) lines
+abbrev pub letters_in : Version → List RawLine → List NamedLetter
+letters_in version lines = letters_from version [] lines
 
 -- the number of states that a line says, and else that said before
 abbrev pub states_said : ℕ → Head → List (List ℕ) → ℕ
@@ -82,8 +132,8 @@ abbrev pub states_by : ℕ → List (List ℕ) → ℕ
 states_by n [] = n
 states_by n (word ∷ words) = states_said n (head_of word) words
 
-abbrev pub states_in : List RawLine → ℕ
-states_in lines = fold (λ n line. states_by n (words_in line)) 0 lines
+abbrev pub states_in : Version → List RawLine → ℕ
+states_in version lines = fold (λ n line. states_by n (words_in version line)) 0 lines
 
 -- the start state that a line says, and else that said before
 abbrev pub start_said : ℕ → Head → List (List ℕ) → ℕ
@@ -94,8 +144,8 @@ abbrev pub start_by : ℕ → List (List ℕ) → ℕ
 start_by q [] = q
 start_by q (word ∷ words) = start_said q (head_of word) words
 
-abbrev pub start_in : List RawLine → ℕ
-start_in lines = fold (λ q line. start_by q (words_in line)) 0 lines
+abbrev pub start_in : Version → List RawLine → ℕ
+start_in version lines = fold (λ q line. start_by q (words_in version line)) 0 lines
 
 -- the accepting states that a line says
 abbrev pub accepts_said : Head → List (List ℕ) → List ℕ
@@ -107,8 +157,8 @@ accepts_by [] = []
 accepts_by (word ∷ words) = accepts_said (head_of word) words
 
 -- the states of all accept lines
-abbrev pub accepts_in : List RawLine → List ℕ
-accepts_in lines = flat_map (λ line. accepts_by (words_in line)) lines
+abbrev pub accepts_in : Version → List RawLine → List ℕ
+accepts_in version lines = flat_map (λ line. accepts_by (words_in version line)) lines
 
 -- the row of a state, a letter and a state, where they are there
 abbrev pub row_of : Option ℕ → Option ℕ → Option ℕ → List declared_row.Row
@@ -126,50 +176,49 @@ rows_by letters [] = []
 rows_by letters (word ∷ words) = rows_said letters (head_of word) words
 
 -- the rows of lines that come after others, each over the letters before it
-abbrev pub rows_from : List RawLine → List RawLine → List declared_row.Row
-rows_from before [] = []
-rows_from before (line ∷ lines) = rows_by (letters_in before) (words_in line) ++ rows_from (before ++ line ∷ []) lines
+abbrev pub rows_from : Version → List RawLine → List RawLine → List declared_row.Row
+rows_from version before [] = []
+rows_from version before (line ∷ lines) =
+    rows_by (letters_in version before) (words_in version line) ++ rows_from version (before ++ line ∷ []) lines
 
 -- the rows of all row lines
-abbrev pub table_rows_in : List RawLine → List declared_row.Row
-table_rows_in lines = rows_from [] lines
+abbrev pub table_rows_in : Version → List RawLine → List declared_row.Row
+table_rows_in version lines = rows_from version [] lines
 
 -- a letter of a script: the process, and the letter's number
 pub record Step : Type 0 where
   pub process : ℕ
   pub letter : ℕ
 
-abbrev pub named_step : List NamedLetter → ℕ → List ℕ → Option Step
-named_step letters process name =
-    option_map (λ (a : ℕ). record { process = process; letter = a }) (place_of letters name)
+abbrev pub steps_of : Version → List NamedLetter → Option ℕ → List (List ℕ) → List Step
+steps_of version letters None words = []
+steps_of version letters (Some process) words =
+    map (λ (a : ℕ). record { process = process; letter = a }) (letters_of_items version letters words)
 
-abbrev pub steps_of : List NamedLetter → Option ℕ → List (List ℕ) → List Step
-steps_of letters None names = []
-steps_of letters (Some process) names = filter_map (named_step letters process) names
+-- the letters that a script line says, over these processes and letters
+abbrev pub steps_said : Naming → List NamedLetter → Head → List (List ℕ) → List Step
+steps_said naming letters Script (word ∷ words) = steps_of naming.version letters (process_at naming word) words
+steps_said naming letters _ _ = []
 
--- the letters that a script line says, over these letters
-abbrev pub steps_said : List NamedLetter → Head → List (List ℕ) → List Step
-steps_said letters Script (word ∷ names) = steps_of letters (numeral_value word) names
-steps_said letters _ _ = []
+abbrev pub steps_by : Naming → List NamedLetter → List (List ℕ) → List Step
+steps_by naming letters [] = []
+steps_by naming letters (word ∷ words) = steps_said naming letters (head_of word) words
 
-abbrev pub steps_by : List NamedLetter → List (List ℕ) → List Step
-steps_by letters [] = []
-steps_by letters (word ∷ words) = steps_said letters (head_of word) words
-
--- the script letters of lines that come after others, each over the letters before it
-abbrev pub steps_from : List RawLine → List RawLine → List Step
-steps_from before [] = []
-steps_from before (line ∷ lines) =
-    steps_by (letters_in before) (words_in line) ++ steps_from (before ++ line ∷ []) lines
+-- the script letters of lines that come after others, each over the processes and letters before it
+abbrev pub steps_from : Version → List RawLine → List RawLine → List Step
+steps_from version before [] = []
+steps_from version before (line ∷ lines) =
+    steps_by (naming_in version before) (letters_in version before) (words_in version line) ++
+    steps_from version (before ++ line ∷ []) lines
 
 -- the letters of all script lines, in order
-abbrev pub steps_in : List RawLine → List Step
-steps_in lines = steps_from [] lines
+abbrev pub steps_in : Version → List RawLine → List Step
+steps_in version lines = steps_from version [] lines
 
 -- all that lines say
 pub record Said : Type 0 where
   pub place : Place
-  pub processes : ℕ
+  pub naming : Naming
   pub letters : List NamedLetter
   pub states : ℕ
   pub start : ℕ
@@ -177,16 +226,17 @@ pub record Said : Type 0 where
   pub rows : List declared_row.Row
   pub steps : List Step
 
-unfoldable pub said : List RawLine → Said
-said lines = record {
-  place = place_after lines;
-  processes = processes_in lines;
-  letters = letters_in lines;
-  states = states_in lines;
-  start = start_in lines;
-  accepts = accepts_in lines;
-  rows = table_rows_in lines;
-  steps = steps_in lines;
+-- all that lines say as lines of a version
+unfoldable pub said : Version → List RawLine → Said
+said version lines = record {
+  place = place_after version lines;
+  naming = naming_in version lines;
+  letters = letters_in version lines;
+  states = states_in version lines;
+  start = start_in version lines;
+  accepts = accepts_in version lines;
+  rows = table_rows_in version lines;
+  steps = steps_in version lines;
 }
 
 -- The tests of a line, after lines that say this.
@@ -194,13 +244,13 @@ said lines = record {
 -- the own tests of a line, by the words after its first
 abbrev pub own_fault : Said → Head → List (List ℕ) → Option Kind
 own_fault s Zla words = header_line_fault words
-own_fault s Processes words = processes_line_fault words
-own_fault s Letter words = letter_line_fault s.processes s.letters words
-own_fault s States words = states_line_fault words
+own_fault s Processes words = processes_line_fault s.naming.version words
+own_fault s Letter words = letter_line_fault s.naming s.letters words
+own_fault s States words = states_line_fault s.naming.version words
 own_fault s Start words = start_line_fault s.states words
 own_fault s Accept words = accept_line_fault s.states words
 own_fault s Row words = row_line_fault s.states s.letters s.rows words
-own_fault s Script words = script_line_fault s.processes s.letters (length s.steps) words
+own_fault s Script words = script_line_fault s.naming s.letters (length s.steps) words
 own_fault s End words = end_line_fault words
 own_fault s Other words = Some OutOfOrder
 
@@ -213,7 +263,7 @@ unfoldable pub line_fault : Said → RawLine → Option Kind
 line_fault s line =
     if not line.whole then Some Cut
     else (if not (list_all is_allowed line.text) then Some BadByte
-    else words_fault s (words_in line))
+    else words_fault s (words_in s.naming.version line))
 
 -- The refusal.
 
@@ -227,16 +277,16 @@ end_fault AfterEnd n = None
 end_fault _ n = Some (next_fault n NoEnd)
 
 -- the first wrong line of those that come after others
-abbrev pub faults_from : List RawLine → List RawLine → Option TextFault
-faults_from before [] = end_fault (said before).place (length before)
-faults_from before (line ∷ lines) =
-    let here = option_map (next_fault (length before)) (line_fault (said before) line) in
-    option_or here (faults_from (before ++ line ∷ []) lines)
+abbrev pub faults_from : Version → List RawLine → List RawLine → Option TextFault
+faults_from version before [] = end_fault (said version before).place (length before)
+faults_from version before (line ∷ lines) =
+    let here = option_map (next_fault (length before)) (line_fault (said version before) line) in
+    option_or here (faults_from version (before ++ line ∷ []) lines)
 
 -- the refusal of a text: its first wrong line with the kind of its first test that fails, or the missing
 -- end, and none where the text is a job
 abbrev pub fault_of : List ℕ → Option TextFault
-fault_of bytes = faults_from [] (lines_of bytes)
+fault_of bytes = faults_from (version_of (lines_of bytes)) [] (lines_of bytes)
 
 -- The job.
 
@@ -252,7 +302,7 @@ script_of_steps steps process =
 -- the language that lines say
 abbrev pub lang_said : Said → PartialDfa
 lang_said s = record {
-  alphabet = record { processes = s.processes; letters = s.letters };
+  alphabet = record { processes = length s.naming.names; letters = s.letters };
   states = s.states;
   start = s.start;
   accepting = acceptance_of s.states s.accepts;
@@ -260,11 +310,11 @@ lang_said s = record {
 }
 
 abbrev pub scripts_said : Said → List (List ℕ)
-scripts_said s = map (script_of_steps s.steps) (range_with_len 0 s.processes)
+scripts_said s = map (script_of_steps s.steps) (range_with_len 0 (length s.naming.names))
 
 abbrev pub job_said : Said → JobData
-job_said s = record { lang = lang_said s; scripts = scripts_said s }
+job_said s = record { naming = s.naming; lang = lang_said s; scripts = scripts_said s }
 
 -- the job gathered from the lines of a text that isn't refused
 abbrev pub job_of : List ℕ → JobData
-job_of bytes = job_said (said (lines_of bytes))
+job_of bytes = job_said (said (version_of (lines_of bytes)) (lines_of bytes))

@@ -1,4 +1,6 @@
 pub mod Limits
+pub mod Namings
+pub mod Items
 pub mod Order
 pub mod Tests
 pub mod Documents

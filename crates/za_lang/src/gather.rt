@@ -2,29 +2,30 @@
 //! the table and the scripts themselves.
 
 ghost use Rattle.std.specs.Prelude.{◌≡◌, ◌<◌, ◌∷◌, ◌++◌, [], List, None, Some, true};
-ghost use Rattle.std.specs.Prelude.{length, IfOk, MatchResult, OnOk, if◌then◌else◌};
+ghost use Rattle.std.specs.Prelude.{length, IfOk, IfSome, MatchResult, OnOk, if◌then◌else◌};
 ghost use Rattle.std.specs.List.{filter_map};
-ghost use Rattle.std.specs.Option.{option_to_list};
 ghost use Rattle.za_text.specs.Numbers.{numeral_value};
 ghost use Rattle.za_text.specs.declared.kind.Kind.TheVariants.{TwoTargets};
 ghost use Rattle.za_alpha.specs.Alphabet.{place_of};
 ghost use Rattle.za_dfa.specs.declared.rows.Row as declared_row;
-ghost use Rattle.za_dfa.specs.Partials.{IsPartial};
 ghost use Rattle.za_dfa.specs.Rows.{has_other};
 ghost use Rattle.za_dfa.specs.Private.Entered.{AreEntered};
 ghost use Rattle.za_script.specs.ScriptLists.{total_of, AreScripts};
 ghost use Rattle.za_lang.specs.Answers.{data_of};
 ghost use Rattle.za_lang.specs.Documents.{rows_said};
 ghost use Rattle.za_lang.specs.Jobs.{IsJob};
-ghost use Rattle.za_lang.specs.Limits.{FitsDocuments};
+ghost use Rattle.za_lang.specs.Items.{letters_of_items, run_of};
+ghost use Rattle.za_lang.specs.Namings.{IsLangData};
 ghost use Rattle.za_lang.specs.Private.Gathering.{is_late_head, marked, AreAdded, IsTaken, IsWrong};
-ghost use Rattle.za_lang.specs.Tests.{accept_line_fault, row_line_fault, step_fault, steps_fault};
+ghost use Rattle.za_lang.specs.Tests.{accept_line_fault, items_fault, row_line_fault, step_fault};
 
 use crate::fault::Refusal;
+use crate::items::{Item, item_of};
 use crate::job::Job;
 use crate::lang::Lang;
 use crate::line_tests::{end_line_fault, process_of, start_said, state_of};
 use crate::order::Head;
+use crate::version::Version;
 use crate::words::Words;
 use za_alpha::{Alphabet, Letter};
 use za_script::Scripts;
@@ -32,13 +33,12 @@ use za_text::Kind;
 
 /// Lets the states that the words name accept.
 fn accept_states(lang: &mut Lang, mut words: Words) -> Result<(), Kind>
-    ensures taken { let accepting = marked lang.old.accepting (filter_map numeral_value words.entry) in
+    ensures taken { let accepting = marked lang.old.table.accepting (filter_map numeral_value words.entry) in
         MatchResult result
-        (λ _. (accept_line_fault lang.old.states words.entry ≡ None)
-        × (lang.new ≡ record lang.old { accepting = accepting }))
-        (λ kind. accept_line_fault lang.old.states words.entry ≡ Some kind) }
-    ensures whole { OnOk result (IsPartial lang.new) }
-    ensures limits { OnOk result (FitsDocuments lang.new) }
+        (λ _. (accept_line_fault lang.old.table.states words.entry ≡ None)
+        × (lang.new ≡ record lang.old { table = record lang.old.table { accepting = accepting } }))
+        (λ kind. accept_line_fault lang.old.table.states words.entry ≡ Some kind) }
+    ensures whole { OnOk result (IsLangData lang.new) }
 {
     let states = lang.states();
     while let Some(word) = words.next() {
@@ -61,16 +61,16 @@ struct RowSaid {
 fn row_said(lang: &Lang, mut words: Words) -> Result<RowSaid, Kind>
     ensures said { MatchResult result
         (λ row. (rows : List declared_row.Row) →
-        row_line_fault lang.now.states lang.now.alphabet.letters rows words.entry
+        row_line_fault lang.now.table.states lang.now.table.alphabet.letters rows words.entry
         ≡ (if has_other rows row.from row.letter.0 row.to then Some TwoTargets else None))
         (λ kind. (rows : List declared_row.Row) →
-        row_line_fault lang.now.states lang.now.alphabet.letters rows words.entry ≡ Some kind) }
+        row_line_fault lang.now.table.states lang.now.table.alphabet.letters rows words.entry ≡ Some kind) }
     ensures row { IfOk result (λ row.
-        (rows_said lang.now.alphabet.letters Head.Row words.entry
+        (rows_said lang.now.table.alphabet.letters Head.Row words.entry
         ≡ record { from = row.from; letter = row.letter; to = row.to } ∷ [])
-        × (row.from < lang.now.states)
-        × (row.letter.0 < length lang.now.alphabet.letters)
-        × (row.to < lang.now.states)) }
+        × (row.from < lang.now.table.states)
+        × (row.letter.0 < length lang.now.table.alphabet.letters)
+        × (row.to < lang.now.table.states)) }
 {
     let Some(from) = words.next() else {
         return Err(Kind::WordCount);
@@ -94,60 +94,63 @@ fn row_said(lang: &Lang, mut words: Words) -> Result<RowSaid, Kind>
 
 /// Enters the row that the words say.
 fn take_row(lang: &mut Lang, words: Words) -> Result<(), Refusal>
-    ensures whole { OnOk result (IsPartial lang.new) }
-    ensures limits { OnOk result (FitsDocuments lang.new) }
-    ensures same { OnOk result (lang.new ≡ record lang.old { targets = lang.new.targets }) }
-    ensures rows { (rows : List declared_row.Row) → AreEntered lang.old rows →
-        let fault = row_line_fault lang.old.states lang.old.alphabet.letters rows words.entry in
-        let said = rows_said lang.old.alphabet.letters Head.Row words.entry in
-        MatchResult result (λ _. (fault ≡ None) × AreEntered lang.new (rows ++ said)) (IsWrong fault) }
+    ensures whole { OnOk result (IsLangData lang.new) }
+    ensures same { OnOk result
+        (lang.new ≡ record lang.old { table = record lang.old.table { targets = lang.new.table.targets } }) }
+    ensures rows { (rows : List declared_row.Row) → AreEntered lang.old.table rows →
+        let fault = row_line_fault lang.old.table.states lang.old.table.alphabet.letters rows words.entry in
+        let said = rows_said lang.old.table.alphabet.letters Head.Row words.entry in
+        MatchResult result (λ _. (fault ≡ None) × AreEntered lang.new.table (rows ++ said)) (IsWrong fault) }
 {
     let row = row_said(lang, words)?;
     lang.enter(row.from, row.letter, row.to)?;
     Ok(())
 }
 
-/// Appends the letter of a name to a script.
-fn add_step(
-    alphabet: &Alphabet,
-    scripts: &mut Scripts,
-    p: usize,
-    name: &[u8],
-) -> Result<(), Refusal>
+/// Appends the letters of an item to a script.
+fn add_item(alphabet: &Alphabet, scripts: &mut Scripts, p: usize, item: Item) -> Result<(), Refusal>
     requires process { p < length scripts.old }
     requires of_alphabet { p < alphabet.now.processes }
     requires limits { AreScripts scripts.old }
-    ensures { let place = place_of alphabet.now.letters name.now in
-        let fault = step_fault alphabet.now.letters p (total_of scripts.old) place in
+    requires some { IfSome item.count (λ count. 0 < count) }
+    ensures { let place = place_of alphabet.now.letters item.entry.name.now in
+        let fault = step_fault alphabet.now.letters p (total_of scripts.old) place item.entry.count in
         MatchResult result
-        (λ _. (fault ≡ None) × AreAdded alphabet.now scripts.old scripts.new p (option_to_list place))
+        (λ _. (fault ≡ None) × AreAdded alphabet.now scripts.old scripts.new p (run_of place item.entry.count))
         (IsWrong fault) }
 {
-    let Some(a) = alphabet.find(name) else {
+    let Some(a) = alphabet.find(item.name) else {
         return Err(Refusal::Wrong(Kind::NoSuchLetter));
     };
-    scripts.add(alphabet, p, a)?;
+    if !alphabet.loc(a).has(p) {
+        return Err(Refusal::Wrong(Kind::NotOfProcess));
+    }
+    let Some(count) = item.count else {
+        return Err(Refusal::Wrong(Kind::BadRepeat));
+    };
+    scripts.add_run(alphabet, p, a, count)?;
     Ok(())
 }
 
-/// Appends the letters that the words name to a script.
-fn add_steps(
+/// Appends the letters that the words stand for to a script.
+fn add_items(
     alphabet: &Alphabet,
     scripts: &mut Scripts,
+    version: Version,
     p: usize,
     mut words: Words,
 ) -> Result<(), Refusal>
     requires process { p < length scripts.old }
     requires of_alphabet { p < alphabet.now.processes }
     requires limits { AreScripts scripts.old }
-    ensures { let letters = filter_map (place_of alphabet.now.letters) words.entry in
-        let fault = steps_fault alphabet.now.letters p (total_of scripts.old) words.entry in
+    ensures { let letters = letters_of_items version alphabet.now.letters words.entry in
+        let fault = items_fault version alphabet.now.letters p (total_of scripts.old) words.entry in
         MatchResult result
         (λ _. (fault ≡ None) × AreAdded alphabet.now scripts.old scripts.new p letters)
         (IsWrong fault) }
 {
-    while let Some(name) = words.next() {
-        add_step(alphabet, scripts, p, name)?;
+    while let Some(word) = words.next() {
+        add_item(alphabet, scripts, p, item_of(version, word))?;
     }
     Ok(())
 }
@@ -192,8 +195,9 @@ fn take_script(job: &mut Job, mut words: Words) -> Result<(), Refusal>
     let Some(word) = words.next() else {
         return Err(Refusal::Wrong(Kind::WordCount));
     };
-    let p = process_of(job.lang.alphabet().processes(), word)?;
-    add_steps(job.lang.alphabet(), &mut job.scripts, p, words)?;
+    let version = job.lang.lines_version();
+    let p = process_of(version, job.lang.names(), word)?;
+    add_items(job.lang.alphabet(), &mut job.scripts, version, p, words)?;
     Ok(())
 }
 

@@ -6,31 +6,55 @@ ghost use Rattle.za_lang.specs.Answers.{data_of, IsRefused};
 ghost use Rattle.za_text.specs.declared.kind.Kind.TheVariants.{NoEnd};
 ghost use Rattle.za_lang.specs.declared.order.Place.TheVariants.{AfterEnd};
 ghost use Rattle.za_lang.specs.declared.reading.Reading.TheVariants.{Body};
-ghost use Rattle.za_lang.specs.Documents.{Said, end_fault, fault_of, job_of, line_fault, own_fault};
+ghost use Rattle.za_lang.specs.declared.version.Version.{Version};
+ghost use Rattle.za_lang.specs.Documents.{Said, begins_comment, end_fault, fault_of, job_of, line_fault, own_fault};
+ghost use Rattle.za_lang.specs.Documents.{version_by, version_said, words_in};
 ghost use Rattle.za_lang.specs.Jobs.{IsJob};
 ghost use Rattle.za_lang.specs.Order.{order_fault};
 ghost use Rattle.za_lang.specs.Private.Gathering.{more, more_said, IsWrong};
-ghost use Rattle.za_lang.specs.Private.Reading.{reading_place, IsReading, Keeps};
+ghost use Rattle.za_lang.specs.Private.Reading.{reading_place, reading_version, Awaits, IsReading, Keeps};
 
 use crate::fault::{JobFault, Refusal, fault_at};
 use crate::gather::take_line;
 use crate::job::Job;
 use crate::letters::{after_letters, place_of};
-use crate::line_tests::{header_line_fault, processes_said};
+use crate::line_tests::header_said;
+use crate::names::names_said;
 use crate::order::{Head, Place, head_of, next_place, order_fault};
+use crate::version::Version;
 use crate::words::Words;
 use std::alloc::Global;
 use za_alpha::Letters;
-use za_text::{Kind, Line, Lines, TextFault, are_allowed};
+use za_text::{Kind, Line, Lines, Names, TextFault, are_allowed};
 
-/// What the lines so far have said: nothing, the header, processes and letters, or, from the states
+/// What the lines so far have said: nothing, the version, processes and letters, or, from the states
 /// line on, a job.
 #[derive(Drop)]
 pub(crate) enum Reading {
     Header,
-    Processes,
-    Letters(Letters),
-    Body { place: Place, job: Job },
+    Processes(Version),
+    Letters {
+        version: Version,
+        names: Names,
+        letters: Letters,
+    },
+    Body {
+        place: Place,
+        job: Job,
+    },
+}
+
+/// Whether the first word of a line begins a comment, which only version 2 has: with a `#`.
+pub fn is_comment(version: Version, word: &[u8]) -> bool
+    ensures { result ≡ begins_comment version word.now }
+{
+    match version {
+        Version::One => false,
+        Version::Two => match word {
+            [first, ..] => *first == b'#',
+            [] => false,
+        },
+    }
 }
 
 impl Reading {
@@ -40,9 +64,21 @@ impl Reading {
     {
         match self {
             Reading::Header => Place::AtHeader,
-            Reading::Processes => Place::AtProcesses,
-            Reading::Letters(letters) => place_of(letters),
+            Reading::Processes(_version) => Place::AtProcesses,
+            Reading::Letters { letters, .. } => place_of(letters),
             Reading::Body { place, .. } => *place,
+        }
+    }
+
+    /// The version of the document, as far as it is known: comments stand only after a header.
+    fn version(&self) -> Version
+        ensures { (s : Said) → Keeps self.now s → result ≡ reading_version self.now s.naming.version }
+    {
+        match self {
+            Reading::Header => Version::One,
+            Reading::Processes(version) => *version,
+            Reading::Letters { version, .. } => *version,
+            Reading::Body { job, .. } => job.lang.lines_version(),
         }
     }
 
@@ -50,24 +86,32 @@ impl Reading {
     fn after_words(self, alloc: Global, head: Head, words: Words) -> Result<Reading, Refusal>
         requires { IsReading self }
         ensures whole { IfOk result IsReading }
-        ensures taken { (s : Said) → Keeps self s → MatchResult result
+        ensures taken { (s : Said) → Keeps self s → Awaits self (version_said head words.entry) s.naming.version →
+            MatchResult result
             (λ reading. (option_or (order_fault s.place head) (own_fault s head words.entry) ≡ None)
-            × Keeps reading (more_said s head words.entry))
+            × Keeps reading (more_said s head words.entry)
+            × ((later version : Version) → Awaits reading later version))
             (IsWrong (option_or (order_fault s.place head) (own_fault s head words.entry))) }
     {
         if let Some(kind) = order_fault(self.place(), head) {
             return Err(Refusal::Wrong(kind));
         }
         match self {
-            Reading::Header => match header_line_fault(words) {
-                Some(kind) => Err(Refusal::Wrong(kind)),
-                None => Ok(Reading::Processes),
-            },
-            Reading::Processes => {
-                let processes = processes_said(words)? as usize;
-                Ok(Reading::Letters(Letters::new(alloc, processes)))
+            Reading::Header => Ok(Reading::Processes(header_said(words)?)),
+            Reading::Processes(version) => {
+                let names = names_said(alloc, version, words)?;
+                let letters = Letters::new(alloc, names.len());
+                Ok(Reading::Letters {
+                    version,
+                    names,
+                    letters,
+                })
             }
-            Reading::Letters(letters) => after_letters(letters, alloc, head, words),
+            Reading::Letters {
+                version,
+                names,
+                letters,
+            } => after_letters(letters, alloc, version, names, head, words),
             Reading::Body { place, mut job } => {
                 take_line(&mut job, head, words)?;
                 Ok(Reading::Body {
@@ -83,8 +127,12 @@ impl Reading {
     fn after(self, alloc: Global, line: &Line) -> Result<Reading, Refusal>
         requires { IsReading self }
         ensures whole { IfOk result IsReading }
-        ensures taken { (s : Said) → Keeps self s → MatchResult result
-            (λ reading. (line_fault s (raw line.now) ≡ None) × Keeps reading (more s (words_of line.now.text.now)))
+        ensures taken { (s : Said) → (later : Version) → Keeps self s →
+            Awaits self (version_by later (words_of line.now.text.now)) s.naming.version →
+            MatchResult result
+            (λ reading. (line_fault s (raw line.now) ≡ None)
+            × Keeps reading (more s (words_in s.naming.version (raw line.now)))
+            × Awaits reading later s.naming.version)
             (IsWrong (line_fault s (raw line.now))) }
     {
         if !line.whole {
@@ -94,10 +142,13 @@ impl Reading {
             return Err(Refusal::Wrong(Kind::BadByte));
         }
         let mut words = Words::new(line);
-        match words.next() {
-            None => Ok(self),
-            Some(first) => self.after_words(alloc, head_of(first), words),
+        let Some(first) = words.next() else {
+            return Ok(self);
+        };
+        if is_comment(self.version(), first) {
+            return Ok(self);
         }
+        self.after_words(alloc, head_of(first), words)
     }
 
     /// The job, if the document has come to its end.

@@ -1,21 +1,12 @@
 -- What the test tells.
-use Rattle.std.proofs.Common.{◌≡◌, ◌↔◌, inl, inr, ℕ, Bool, true, List, [], ◌∷◌, nat_eq, ◌&&◌, refl, sym, ◌∙◌, subst, eqb-true, IsTrue}
+use Rattle.std.proofs.Common.{◌≡◌, ◌↔◌, inl, inr, Bool, true, nat_eq, ◌&&◌, sym, ◌∙◌, subst, eqb-true, IsTrue}
 use Rattle.std.proofs.lemmas.Bool.{and_parts, cases_Bool}
-use Rattle.std.specs.Cmp.Lexicographic.{pointwise}
+use Rattle.std.specs.Cmp.Lexicographic.{pointwise, same_text}
 use Rattle.za_local.specs.Locals.{LocalState}
 use Rattle.za_local.specs.Same.{same_gossip, same_residues, same_local, same_local_equiv}
 use Rattle.za_local.proofs.LocalLaws.{same-locals}
 use Rattle.za_gossip.proofs.RowsOf.{same-rows}
 use Rattle.za_residue.proofs.Written.{same-functions}
-
-same-list : (xs ys : List ℕ) → pointwise nat_eq xs ys ≡ true → xs ≡ ys
-same-list [] [] h = refl
-same-list [] (y ∷ ys) h = cc
-same-list (x ∷ xs) [] h = cc
-same-list (x ∷ xs) (y ∷ ys) h =
-    let b = and_parts (nat_eq x y) (pointwise nat_eq xs ys) h in
-    let e = eqb-true x y b.0 in
-    let t = same-list xs ys b.1 in cc
 
 pub same_local-is : (a b : LocalState) → same_local a b ≡ true → a ≡ b
 same_local-is a b h =
@@ -27,10 +18,10 @@ same_local-is a b h =
     (nat_eq a.residues.states b.residues.states && pointwise nat_eq a.residues.values b.residues.values) k.1 in
     let r2 = and_parts (nat_eq a.residues.states b.residues.states) (pointwise nat_eq a.residues.values b.residues.values) r.1 in
     same-locals a b
-    (same-rows a.gossip b.gossip (same-list a.gossip.primary b.gossip.primary g.0) (same-list a.gossip.secondary b.gossip.secondary g2.0)
-    (same-list a.gossip.tertiary b.gossip.tertiary g2.1))
+    (same-rows a.gossip b.gossip (same_text a.gossip.primary b.gossip.primary (sym g.0)) (same_text a.gossip.secondary b.gossip.secondary (sym g2.0))
+    (same_text a.gossip.tertiary b.gossip.tertiary (sym g2.1)))
     (same-functions a.residues b.residues (eqb-true a.residues.processes b.residues.processes r.0) (eqb-true a.residues.states b.residues.states r2.0)
-    (same-list a.residues.values b.residues.values r2.1))
+    (same_text a.residues.values b.residues.values (sym r2.1)))
 
 pub is-same_local : (a b : LocalState) → a ≡ b → same_local a b ≡ true
 is-same_local a b e = subst (λ c. same_local a c ≡ true) e (same_local_equiv.refl a)

@@ -7,8 +7,6 @@ mod firing;
 mod laws;
 mod local;
 mod masks;
-#[cfg(test)]
-mod tests;
 mod transitions;
 
 pub use bench::Bench;

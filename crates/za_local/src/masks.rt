@@ -84,7 +84,8 @@ fn set_under(
     requires rows { (w : List ℕ) × AreRowsAfter alphabet.now w (loc_of alphabet.now a.0) inputs.now }
     ensures { (w : List ℕ) → AreRowsAfter alphabet.now w (loc_of alphabet.now a.0) inputs.now →
         (i r s : ℕ) → i < length inputs.now → r < alphabet.now.processes →
-        has (members (slice_index_or (slice_index_or rows.new i []) r no_process)) s ≡ under_at alphabet.now a.0 w i r s }
+        has (members (slice_index_or (slice_index_or rows.new i []) r no_process)) s
+        ≡ under_at alphabet.now a.0 w i r s }
 {
     let mut bests = [0; MOST_PROCESSES];
     set_bests(alphabet, n, a, inputs, &mut bests);

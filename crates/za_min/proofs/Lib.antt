@@ -11,4 +11,5 @@ pub mod TableSteps
 pub mod ApartSteps
 pub mod Minimised
 pub mod Existence
+pub mod Spreading
 mod Examples

@@ -1,6 +1,6 @@
 //! Laws over the definitions alone.
 
-ghost use Rattle.za_min.specs.Laws.{MinimalDfasAreOne, MinimalDfasExist};
+ghost use Rattle.za_min.specs.Laws.{AliveStatesContinueWords, MinimalDfasAreOne, MinimalDfasExist};
 
 /// Two minimal DFAs of one language over one alphabet, both numbered by their shortlex-least access
 /// words, are equal, and so are these words.
@@ -14,4 +14,10 @@ pub fn minimal_dfas_are_one()
 #[tactic(auto, using(crate::proofs::Existence::minimal_dfas_exist))]
 pub fn minimal_dfas_exist()
     ensures { MinimalDfasExist }
+{}
+
+/// A word can still be accepted exactly if the state to which it leads is alive.
+#[tactic(auto, using(crate::proofs::Spreading::alive_states_continue_words))]
+pub fn alive_states_continue_words()
+    ensures { AliveStatesContinueWords }
 {}

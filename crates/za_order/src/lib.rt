@@ -6,8 +6,6 @@
 mod bits;
 mod laws;
 mod pasts;
-#[cfg(test)]
-mod tests;
 
 pub use bits::BitRow;
 pub use laws::{

@@ -21,10 +21,12 @@ use Rattle.za_dfa.proofs.GridLemmas.{row_of_cell}
 use Rattle.za_alpha.specs.NewNames.{is_taken}
 use Rattle.za_lang.specs.Documents.{acceptance_of}
 use Rattle.za_dfa.specs.Partials.{PartialDfa, IsPartial, is_accepting, target_of}
+use Rattle.za_lang.specs.declared.version.Version.{Version}
 use Rattle.za_lang.specs.Limits.{document_letters}
 use Rattle.za_print.specs.Printed as printed
 use Rattle.za_print.specs.Printed.{accepting_states, table_rows}
-use Rattle.za_print.proofs.Runs.{AreLetters, Finds, AreRows}
+use Rattle.za_print.proofs.ItemLemmas.{Finds}
+use Rattle.za_print.proofs.Runs.{AreLetters, AreRows}
 
 -- what holds at each place holds one by one
 pub one_by_one : {X : Type 0} (P : X → Type 0) (xs : List X) → All P xs → AllByRecursion P xs
@@ -89,8 +91,8 @@ all_members [] n h = tt
 all_members (p ∷ ps) n h =
     (h p (or_left (p == p) (has ps p) (eq-eqb p p refl)), all_members ps n (λ q k. h q (let w : (p == q || has ps q) ≡ true = grind (arith, nat_tests) in w)))
 
-module _ (alphabet : DistributedAlphabet) (whole : IsDistributed alphabet) (short : length alphabet.letters ≤ document_letters) where
-  letters_from : (front ls : List NamedLetter) → front ++ ls ≡ alphabet.letters → AreLetters alphabet.processes front ls
+module _ (v : Version) (alphabet : DistributedAlphabet) (whole : IsDistributed alphabet) (short : length alphabet.letters ≤ document_letters v) where
+  letters_from : (front ls : List NamedLetter) → front ++ ls ≡ alphabet.letters → AreLetters v alphabet.processes front ls
   letters_from front [] e = tt
   letters_from front (l ∷ ls) e =
       let at : ℕ = length front in
@@ -115,7 +117,7 @@ module _ (alphabet : DistributedAlphabet) (whole : IsDistributed alphabet) (shor
         letters_from (front ++ l ∷ []) ls (append_assoc front (l ∷ []) ls ∙ e),
       )
 
-  pub letters_fit : AreLetters alphabet.processes [] alphabet.letters
+  pub letters_fit : AreLetters v alphabet.processes [] alphabet.letters
   letters_fit = letters_from [] alphabet.letters refl
 
 -- ---- rows

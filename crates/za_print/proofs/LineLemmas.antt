@@ -1,5 +1,5 @@
 -- The lines of a job, one more at a time.
-use Rattle.std.proofs.Common.{◌≡◌, ℕ, zero, suc, ◌+◌, ◌<◌, take, length, add-one, arith, codes, decimal, List, [], ◌∷◌, ◌++◌, map, ap, sym, ◌∙◌, refl, append_assoc, Option, Some, None}
+use Rattle.std.proofs.Common.{◌≡◌, ℕ, zero, suc, ◌+◌, ◌<◌, take, length, add-one, arith, codes, List, [], ◌∷◌, ◌++◌, map, ap, sym, ◌∙◌, refl, append_assoc, Option, Some, None}
 use Rattle.std.specs.List.{cons_option, filter_map, range_with_len}
 use Rattle.std.specs.Option.{option_to_list}
 use Rattle.std.proofs.lemmas.List.{append-nil, map-append}
@@ -8,6 +8,7 @@ use Rattle.za_alpha.specs.Procs.{members}
 use Rattle.za_alpha.specs.Alphabet.{NamedLetter, name_at, procs_at}
 use Rattle.za_print.specs.Printed.{letter_line}
 use Rattle.za_alpha.proofs.Members.{range-below-more}
+use Rattle.za_text.specs.ProcessNames.{name_of}
 use Rattle.za_text.specs.Printed.{line, text_of}
 
 take-suc-letters : (ls : List NamedLetter) (a : ℕ) → a < length ls → take (suc a) ls ≡ take a ls ++ record { name = name_at ls a; loc = procs_at ls a } ∷ []
@@ -19,12 +20,12 @@ take-letters : (ls : List NamedLetter) (a : ℕ) → a < length ls → take (a +
 take-letters ls a h = rw add-one (take-suc-letters ls a h)
 
 -- the lines of letters, and of one letter more
-pub letters-more : (ls : List NamedLetter) (a : ℕ) → a < length ls →
-    text_of (map letter_line (take (a + 1) ls)) ≡ text_of (map letter_line (take a ls)) ++ line (codes "letter" ∷ name_at ls a ∷ map decimal (members (procs_at ls a)))
-letters-more ls a h =
+pub letters-more : (names : List (List ℕ)) (ls : List NamedLetter) (a : ℕ) → a < length ls →
+    text_of (map (letter_line names) (take (a + 1) ls)) ≡ text_of (map (letter_line names) (take a ls)) ++ line (codes "letter" ∷ name_at ls a ∷ map (name_of names) (members (procs_at ls a)))
+letters-more names ls a h =
     let at : NamedLetter = record { name = name_at ls a; loc = procs_at ls a } in
-    ap (λ xs. text_of (map letter_line xs)) (take-letters ls a h) ∙ ap text_of (map-append letter_line (take a ls) (at ∷ []))
-    ∙ flat_map-append line (map letter_line (take a ls)) (letter_line at ∷ []) ∙ ap (λ ys. text_of (map letter_line (take a ls)) ++ ys) (append-nil (line (letter_line at)))
+    ap (λ xs. text_of (map (letter_line names) xs)) (take-letters ls a h) ∙ ap text_of (map-append (letter_line names) (take a ls) (at ∷ []))
+    ∙ flat_map-append line (map (letter_line names) (take a ls)) (letter_line names at ∷ []) ∙ ap (λ ys. text_of (map (letter_line names) (take a ls)) ++ ys) (append-nil (line (letter_line names at)))
 
 glued : (a b c d e f g h i x0 x1 x2 x3 x4 x5 x6 x7 x8 : List ℕ) → x0 ≡ a → x1 ≡ x0 ++ b → x2 ≡ x1 ++ c → x3 ≡ x2 ++ d → x4 ≡ x3 ++ e → x5 ≡ x4 ++ f → x6 ≡ x5 ++ g → x7 ≡ x6 ++ h → x8 ≡ x7 ++ i →
     x8 ≡ a ++ (b ++ (c ++ (d ++ (e ++ (f ++ (g ++ (h ++ i)))))))

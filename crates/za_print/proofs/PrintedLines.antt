@@ -1,5 +1,5 @@
 -- A text of lines of words has these lines, and they have these words.
-use Rattle.std.proofs.Common.{◌≡◌, ◌∙◌, ap, ℕ, ◌<◌, Bool, true, false, not, ◌&&◌, List, [], ◌∷◌, ◌++◌, length, map, refl, append_assoc, arith}
+use Rattle.std.proofs.Common.{◌≡◌, ◌∙◌, ap, ℕ, ◌<◌, Bool, true, false, not, ◌&&◌, List, [], ◌∷◌, ◌++◌, length, map, refl, append_assoc, length-append, arith}
 use Rattle.std.specs.Prelude.{◌==◌, nat_le}
 use Rattle.std.specs.List.{list_all, filter, AllByRecursion}
 use Rattle.std.proofs.lemmas.Bool.{and_parts}
@@ -8,6 +8,11 @@ use Rattle.std.proofs.lemmas.List.{append-nil}
 use Rattle.za_text.specs.Lines.{RawLine, lines_of, is_allowed}
 use Rattle.za_text.specs.Words.{is_gap, pieces, words_of}
 use Rattle.za_text.specs.Printed.{spaced, line, text_of}
+use Rattle.za_text.specs.Names.{begins_with_digit, is_name, is_name_byte}
+use Rattle.za_names.specs.Limits.{most_name_bytes}
+use Rattle.za_lang.specs.declared.version.Version.{Version}
+use Rattle.za_lang.specs.declared.version.Version.TheVariants.{One, Two}
+use Rattle.za_lang.specs.Documents.{begins_comment, words_in}
 
 -- a byte of a word
 abbrev pub is_inner : ℕ → Bool
@@ -18,10 +23,10 @@ pub record CanPrint (w : List ℕ) : Type 0 where
   pub some : 0 < length w
   pub inner : list_all is_inner w ≡ true
 
--- a line with a word, whose words can be printed
+-- a line with a word, which begins no comment, and whose words can be printed
 abbrev pub IsLine : List (List ℕ) → Type 0
 IsLine [] = ⊥
-IsLine (w ∷ ws) = AllByRecursion CanPrint (w ∷ ws)
+IsLine (w ∷ ws) = (begins_comment Two w ≡ false) × AllByRecursion CanPrint (w ∷ ws)
 
 -- the bytes of a line before its line feed
 abbrev pub line_text : List (List ℕ) → List ℕ
@@ -64,7 +69,7 @@ all_filled (w ∷ ws) h = let e = filled_word w h.0 in rw e (ap (λ us. w ∷ us
 -- the words of a line of words
 pub words_of_line : (ws : List (List ℕ)) → IsLine ws → words_of (line_text ws) ≡ ws
 words_of_line [] h = absurd h
-words_of_line (w ∷ ws) h = ap (filter filled) (pieces_line w ws h) ∙ all_filled (w ∷ ws) h
+words_of_line (w ∷ ws) h = ap (filter filled) (pieces_line w ws h.1) ∙ all_filled (w ∷ ws) h.1
 
 -- the bytes of a line of words
 abbrev is_line_byte : ℕ → Bool
@@ -92,7 +97,7 @@ spaced_bytes (w ∷ ws) h = all-append is_line_byte w (spaced ws) (word_bytes w 
 
 line_bytes : (ws : List (List ℕ)) → IsLine ws → list_all is_line_byte (line_text ws) ≡ true
 line_bytes [] h = absurd h
-line_bytes (w ∷ ws) h = all-append is_line_byte w (spaced ws) (word_bytes w h.0.inner) (spaced_bytes ws h.1)
+line_bytes (w ∷ ws) h = all-append is_line_byte w (spaced ws) (word_bytes w h.1.0.inner) (spaced_bytes ws h.1.1)
 
 byte_feed : (b : ℕ) → is_line_byte b ≡ true → (b == 10) ≡ false
 byte_feed b h = grind (arith, nat_tests)
@@ -131,3 +136,36 @@ lines_of_text (ws ∷ wss) h =
     ap lines_of (line_is ws (text_of wss))
     ∙ line_front (line_text ws) (text_of wss) (line_bytes ws h.0)
     ∙ ap (λ ls. printed_line ws ∷ ls) (lines_of_text wss h.1)
+
+no_comment : (v : Version) (w : List ℕ) → begins_comment Two w ≡ false → begins_comment v w ≡ false
+no_comment One w h = refl
+no_comment Two w h = h
+
+-- the words of a line of words, in each version
+pub words_in_line : (v : Version) (ws : List (List ℕ)) → IsLine ws → words_in v (printed_line ws) ≡ ws
+words_in_line v [] h = absurd h
+words_in_line v (w ∷ ws) h = let no = no_comment v w h.0 in rw (words_of_line (w ∷ ws) h, no) refl
+
+-- names can be printed
+name_inner : (b : ℕ) → is_name_byte b ≡ true → is_inner b ≡ true
+name_inner b h = grind (arith, nat_tests)
+
+names_inner : (bs : List ℕ) → list_all is_name_byte bs ≡ true → list_all is_inner bs ≡ true
+names_inner [] h = refl
+names_inner (b ∷ bs) h =
+    let parts = and_parts (is_name_byte b) (list_all is_name_byte bs) h in
+    let e = name_inner b parts.0 in
+    rw e (names_inner bs parts.1)
+
+pub name_word : (name : List ℕ) → is_name name ≡ true → CanPrint name
+name_word [] h = absurd (cc)
+name_word (b ∷ bs) h =
+    let parts = and_parts (nat_le 1 (length (b ∷ bs)) && nat_le (length (b ∷ bs)) most_name_bytes && not (begins_with_digit (b ∷ bs))) (list_all is_name_byte (b ∷ bs)) h in
+    record { some = omega arith; inner = names_inner (b ∷ bs) parts.1 }
+
+-- a name, a star and a word
+pub starred_word : (name word : List ℕ) → CanPrint name → CanPrint word → CanPrint (name ++ 42 ∷ word)
+starred_word name word h k =
+    let some = h.some in
+    let long = length-append name (42 ∷ word) in
+    record { some = omega arith; inner = all-append is_inner name (42 ∷ word) h.inner k.inner }

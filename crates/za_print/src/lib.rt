@@ -1,6 +1,7 @@
 //! The printed form of a job.
 #![tactic(auto)]
 
+mod items;
 mod laws;
 mod print;
 #[cfg(test)]

@@ -1,1 +1,4 @@
 pub mod Texts
+pub mod LocalStates
+pub mod Private
+pub mod Audits

@@ -10,6 +10,7 @@ use Rattle.za_script.specs.declared.answer.Answer.TheVariants.{Accept, Reject, S
 use Rattle.za_script.specs.ScriptLists.{script_of}
 use Rattle.za_text.specs.declared.kind.TextFault.{TextFault}
 use Rattle.za_text.specs.Kinds.{kind_text}
+use Rattle.za_text.specs.ProcessNames.{name_of}
 use Rattle.za_text.specs.Printed.{text_of, number_line}
 
 -- how many records there are at most: one for each process and for one firing, and as many for each cache row
@@ -40,32 +41,33 @@ wait_words alphabet script fired =
     if nat_lt fired (length script) then codes "waits" ∷ name_at alphabet.letters (slice_index script fired) ∷ []
     else codes "ended" ∷ []
 
--- process p after so many of its events
-abbrev pub process_words : DistributedAlphabet → List ℕ → ℕ → ℕ → List (List ℕ)
-process_words alphabet script p fired =
-    codes "process" ∷ decimal p ∷ codes "fired" ∷ decimal fired ∷ wait_words alphabet script fired
+-- the process of a name after so many of its events
+abbrev pub process_words : DistributedAlphabet → List ℕ → List ℕ → ℕ → List (List ℕ)
+process_words alphabet script name fired =
+    codes "process" ∷ name ∷ codes "fired" ∷ decimal fired ∷ wait_words alphabet script fired
 
 -- process p after the word
-abbrev pub process_line : DistributedAlphabet → List (List ℕ) → List ℕ → ℕ → List (List ℕ)
-process_line alphabet scripts word p =
-    process_words alphabet (script_of scripts p) p (length (projection (loc_of alphabet) p word))
+abbrev pub process_line : List (List ℕ) → DistributedAlphabet → List (List ℕ) → List ℕ → ℕ → List (List ℕ)
+process_line names alphabet scripts word p =
+    process_words alphabet (script_of scripts p) (name_of names p) (length (projection (loc_of alphabet) p word))
 
 -- where the scripts are stuck: each process, and the word that fired
-abbrev pub stuck_lines : DistributedAlphabet → List (List ℕ) → List ℕ → List (List (List ℕ))
-stuck_lines alphabet scripts word =
-    map (process_line alphabet scripts word) (range_with_len 0 alphabet.processes)
+abbrev pub stuck_lines : List (List ℕ) → DistributedAlphabet → List (List ℕ) → List ℕ → List (List (List ℕ))
+stuck_lines names alphabet scripts word =
+    map (process_line names alphabet scripts word) (range_with_len 0 alphabet.processes)
     ++ names_line (codes "trace") alphabet word ∷ []
 
-abbrev pub more_lines : DistributedAlphabet → List (List ℕ) → List ℕ → Answer → List (List (List ℕ))
-more_lines alphabet scripts word Accept = []
-more_lines alphabet scripts word Reject = []
-more_lines alphabet scripts word Stuck = stuck_lines alphabet scripts word
+abbrev pub more_lines :
+    List (List ℕ) → DistributedAlphabet → List (List ℕ) → List ℕ → Answer → List (List (List ℕ))
+more_lines names alphabet scripts word Accept = []
+more_lines names alphabet scripts word Reject = []
+more_lines names alphabet scripts word Stuck = stuck_lines names alphabet scripts word
 
--- the text of an answer, with the word that fired and so many cache rows
-abbrev pub answer_text : DistributedAlphabet → List (List ℕ) → List ℕ → Answer → ℕ → List ℕ
-answer_text alphabet scripts word answer cache =
+-- the text of an answer, with the names of the processes, the word that fired and so many cache rows
+abbrev pub answer_text : List (List ℕ) → DistributedAlphabet → List (List ℕ) → List ℕ → Answer → ℕ → List ℕ
+answer_text names alphabet scripts word answer cache =
     text_of ((answer_word answer ∷ []) ∷ number_line (codes "fired") (length word) ∷ bound_line alphabet cache
-    ∷ more_lines alphabet scripts word answer)
+    ∷ more_lines names alphabet scripts word answer)
 
 -- ---- closed or not
 

@@ -15,6 +15,7 @@ use crate::closed::push_names_line;
 use std::alloc::Global;
 use za_alpha::{Alphabet, Letter, OutOfMemory};
 use za_script::{Answer, Scripts, Woven};
+use za_text::Names;
 use za_write::{push_number, push_number_line, push_word};
 
 /// The first word of an answer's text.
@@ -48,20 +49,20 @@ fn push_wait(
     }
 }
 
-/// The line of a process after so many of its events.
+/// The line of the process of a name after so many of its events.
 fn push_process_words(
     text: &mut Vec<u8>,
     alphabet: &Alphabet,
     script: &[Letter],
-    p: usize,
+    name: &[u8],
     fired: usize,
 ) -> Result<(), OutOfMemory>
     requires { IsWord (length alphabet.now.letters) (numbers script.now) }
     ensures { OnOk result (text.new.items ≡ text.old.items
-        ++ line (process_words alphabet.now (numbers script.now) p fired)) }
+        ++ line (process_words alphabet.now (numbers script.now) name.now fired)) }
 {
     text.extend_from_slice(b"process")?;
-    push_number(text, p)?;
+    push_word(text, name)?;
     push_word(text, b"fired")?;
     push_number(text, fired)?;
     push_wait(text, alphabet, script, fired)?;
@@ -72,37 +73,41 @@ fn push_process_words(
 /// The line of a process where the scripts are stuck.
 fn push_process(
     text: &mut Vec<u8>,
+    names: &Names,
     alphabet: &Alphabet,
     scripts: &Scripts,
     woven: &Woven,
     p: usize,
 ) -> Result<(), OutOfMemory>
+    requires names { length names.now ≡ alphabet.now.processes }
     requires fit { FitAlphabet alphabet.now scripts.now }
     requires woven { IsWeave alphabet.now scripts.now woven.now }
     requires process { p < alphabet.now.processes }
     ensures { OnOk result (text.new.items ≡ text.old.items
-        ++ line (process_line alphabet.now scripts.now woven.now.word p)) }
+        ++ line (process_line names.now alphabet.now scripts.now woven.now.word p)) }
 {
     let script = scripts.script(p).letters();
-    push_process_words(text, alphabet, script, p, woven.count(p))
+    push_process_words(text, alphabet, script, names.of(p), woven.count(p))
 }
 
 /// The lines of the first processes, so many, where the scripts are stuck.
 fn push_processes(
     text: &mut Vec<u8>,
+    names: &Names,
     alphabet: &Alphabet,
     scripts: &Scripts,
     woven: &Woven,
     processes: usize,
 ) -> Result<(), OutOfMemory>
+    requires names { length names.now ≡ alphabet.now.processes }
     requires fit { FitAlphabet alphabet.now scripts.now }
     requires woven { IsWeave alphabet.now scripts.now woven.now }
     requires processes { processes ≤ alphabet.now.processes }
     ensures { OnOk result (text.new.items ≡ text.old.items
-        ++ text_of (map (process_line alphabet.now scripts.now woven.now.word) (range_with_len 0 processes))) }
+        ++ text_of (map (process_line names.now alphabet.now scripts.now woven.now.word) (range_with_len 0 processes))) }
 {
     for p in 0..processes {
-        push_process(text, alphabet, scripts, woven, p)?;
+        push_process(text, names, alphabet, scripts, woven, p)?;
     }
     Ok(())
 }
@@ -110,44 +115,50 @@ fn push_processes(
 /// The lines where the scripts are stuck: each process, and the word that fired.
 fn push_stuck(
     text: &mut Vec<u8>,
+    names: &Names,
     alphabet: &Alphabet,
     scripts: &Scripts,
     woven: &Woven,
 ) -> Result<(), OutOfMemory>
+    requires names { length names.now ≡ alphabet.now.processes }
     requires fit { FitAlphabet alphabet.now scripts.now }
     requires woven { IsWeave alphabet.now scripts.now woven.now }
     ensures { OnOk result (text.new.items ≡ text.old.items
-        ++ text_of (stuck_lines alphabet.now scripts.now woven.now.word)) }
+        ++ text_of (stuck_lines names.now alphabet.now scripts.now woven.now.word)) }
 {
-    push_processes(text, alphabet, scripts, woven, alphabet.processes())?;
+    push_processes(text, names, alphabet, scripts, woven, alphabet.processes())?;
     push_names_line(text, b"trace", alphabet, woven.word().letters())?;
     Ok(())
 }
 
 /// The text of an answer to scripts: how many events fired, the bounds with so many cache rows, and
-/// where the scripts are stuck how far each process came, and the word that fired.
+/// where the scripts are stuck how far each process came, by its name, and the word that fired. There is
+/// one name for each process.
 ///
 /// `woven` is what `weave` gives for this alphabet and these scripts, and the answer is stuck exactly
 /// if it isn't whole. Want of memory is the one free answer.
 pub fn answer_text(
     alloc: Global,
+    names: &Names,
     alphabet: &Alphabet,
     scripts: &Scripts,
     woven: &Woven,
     answer: Answer,
     cache: u8,
 ) -> Result<Vec<u8>, OutOfMemory>
+    requires names { length names.now ≡ alphabet.now.processes }
     requires fit { FitAlphabet alphabet.now scripts.now }
     requires woven { IsWeave alphabet.now scripts.now woven.now }
     requires stuck { answer ≡ Answer.Stuck ↔ woven.now.whole ≡ false }
-    ensures { IfOk result (λ text. text.items ≡ answer_text alphabet.now scripts.now woven.now.word answer cache) }
+    ensures { IfOk result
+        (λ text. text.items ≡ answer_text names.now alphabet.now scripts.now woven.now.word answer cache) }
 {
     let mut text = Vec::from_slice(alloc, word_of(answer))?;
     text.push(b'\n')?;
     push_number_line(&mut text, b"fired", woven.word().len())?;
     push_bounds(&mut text, alphabet, cache)?;
     if let Answer::Stuck = answer {
-        push_stuck(&mut text, alphabet, scripts, woven)?;
+        push_stuck(&mut text, names, alphabet, scripts, woven)?;
     }
     Ok(text)
 }

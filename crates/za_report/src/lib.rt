@@ -1,13 +1,19 @@
-//! The texts that say answers and refusals.
+//! The texts that say answers, what processes know, and refusals.
 #![tactic(auto)]
 
 mod answer;
 mod bounds;
 mod closed;
+mod locals;
 mod refused;
 #[cfg(test)]
 mod tests;
+mod verdict;
+#[cfg(test)]
+mod verdict_tests;
 
 pub use answer::answer_text;
 pub use closed::{check_text, open_text};
+pub use locals::locals_text;
 pub use refused::refused_text;
+pub use verdict::audit_text;

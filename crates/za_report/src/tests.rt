@@ -5,8 +5,10 @@ use std::alloc::Global;
 use std::process::Abort;
 use std::test::Fail;
 use za_alpha::{Alphabet, Letter, LetterRow, OutOfMemory, Word};
+use za_dfa::{Closed, Dfa};
 use za_script::{Answer, Scripts, Woven, weave};
-use za_text::{Kind, TextFault};
+use za_table::solo;
+use za_text::{Kind, Names, TextFault};
 
 /// An alphabet of these letters with their processes.
 fn alphabet_of(alloc: Global, n: usize, letters: &[(&str, &[u32])]) -> Result<Alphabet, Fail> {
@@ -43,6 +45,22 @@ fn answer_by(woven: &Woven, accepts: bool) -> Answer
     }
 }
 
+/// Scripts of these letters, each with its process.
+fn scripts_of(
+    rt: &impl Abort,
+    alloc: Global,
+    alphabet: &Alphabet,
+    letters: &[(usize, u8)],
+) -> Result<Scripts, Fail> {
+    let mut scripts = Scripts::empty(alloc, alphabet.processes())?;
+    for (p, a) in letters {
+        assert!(rt; *p < alphabet.processes() && *p < scripts.processes());
+        assert!(rt; (*a as usize) < alphabet.letters());
+        scripts.add(alphabet, *p, Letter(*a))?;
+    }
+    Ok(scripts)
+}
+
 /// The text of the answer to scripts, where the woven word is accepted, or isn't.
 fn text_for(
     rt: &impl Abort,
@@ -52,16 +70,13 @@ fn text_for(
     accepts: bool,
     cache: u8,
 ) -> Result<Vec<u8>, Fail> {
-    let mut scripts = Scripts::empty(alloc, alphabet.processes())?;
-    for (p, a) in letters {
-        assert!(rt; *p < alphabet.processes() && *p < scripts.processes());
-        assert!(rt; (*a as usize) < alphabet.letters());
-        scripts.add(alphabet, *p, Letter(*a))?;
-    }
+    let scripts = scripts_of(rt, alloc, alphabet, letters)?;
     assert!(rt; scripts.fits(alphabet));
     let woven = weave(alloc, alphabet, &scripts)?;
     let answer = answer_by(&woven, accepts);
-    Ok(answer_text(alloc, alphabet, &scripts, &woven, answer, cache)?)
+    let names = Names::numbers(alloc, alphabet.processes())?;
+    assert!(rt; names.len() == alphabet.processes());
+    Ok(answer_text(alloc, &names, alphabet, &scripts, &woven, answer, cache)?)
 }
 
 #[test]
@@ -140,5 +155,30 @@ fn texts_of_refusals(rt: HostRuntime) -> Result<(), Fail> {
         let text = refused_text(rt.alloc(), &TextFault { line, kind })?;
         assert!(rt; text.as_slice() == wanted.as_bytes(), "{wanted}");
     }
+    Ok(())
+}
+
+/// Two states: `a` goes to and fro, `b` and `c` stay.
+fn to_and_fro(rt: &impl Abort, alloc: Global) -> Result<Closed, Fail> {
+    let alphabet = two(alloc)?;
+    let accepting = Vec::from_slice(alloc, &[true, false])?;
+    let targets = Vec::from_slice(alloc, &[1u8, 0, 0, 0, 1, 1])?;
+    assert!(rt; Dfa::is_table(&alphabet, 0, &accepting, &targets));
+    match Closed::new(Dfa::of_table(alphabet, 0, accepting, targets)) {
+        Ok(closed) => Ok(closed),
+        Err(_) => panic!(rt; "a diamond is broken"),
+    }
+}
+
+#[test]
+fn texts_of_local_states(rt: HostRuntime) -> Result<(), Fail> {
+    let alloc = rt.alloc();
+    let closed = to_and_fro(&rt, alloc)?;
+    let letters = [(0, 0), (0, 2), (0, 0), (1, 1), (1, 2)];
+    let scripts = scripts_of(&rt, alloc, closed.dfa().alphabet(), &letters)?;
+    assert!(rt; scripts.fits(closed.dfa().alphabet()));
+    let ended = solo(alloc, closed.copy()?, scripts, 1)?;
+    let text = locals_text(alloc, &closed, &ended)?;
+    assert!(rt; text.as_slice() == b"p0 a.0 c.0 view 0\np1 c.0 c.0 view 1\n".as_slice());
     Ok(())
 }

@@ -15,4 +15,3 @@ pub mod Nobody
 pub mod SetNumbers
 pub mod Halves
 pub mod LeftOut
-mod FirstEvents

@@ -8,8 +8,6 @@ mod laws;
 mod leaving;
 mod masks;
 mod residues;
-#[cfg(test)]
-mod tests;
 mod writing;
 
 pub use composing::{advance, join_all};

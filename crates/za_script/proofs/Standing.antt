@@ -56,6 +56,48 @@ pub record Stands (alphabet : DistributedAlphabet) (scripts : List (List ℕ)) (
   pub same : weave (loc_of alphabet) (length alphabet.letters) alphabet.processes (script_of scripts) ≡
       weave_from (loc_of alphabet) (length alphabet.letters) (script_of scripts) (total (script_of scripts) alphabet.processes - length word) word
 
+-- one letter more is one more at each of its processes
+pub seen-more : (loc : ℕ → List ℕ) (places moved word : List ℕ) (a p : ℕ) → slice_index moved p ≡ slice_index places p + cond (has (loc a) p) 1 0 →
+    slice_index places p ≡ length (projection loc p word) → slice_index moved p ≡ length (projection loc p (word ++ a ∷ []))
+seen-more loc places moved word a p m o =
+    let f = ap length (filter-append (λ b. has (loc b) p) word (a ∷ [])) ∙ length-append (projection loc p word) (projection loc p (a ∷ [])) in
+    elim (cases_Bool (has (loc a) p)) [
+      | inl t ↦ let z = ap length (seen-take loc p a [] t) in let y : cond {A = ℕ} (has (loc a) p) 1 0 ≡ 1 = cond-true (has (loc a) p) 1 0 t in omega arith
+      | inr t ↦ let z = ap length (seen-skip loc p a [] t) in let y : cond {A = ℕ} (has (loc a) p) 1 0 ≡ 0 = cond-false (has (loc a) p) 1 0 t in omega arith
+    ]
+
+-- a word that fits, with these counts, weaves the scripts exactly if each is used up
+pub used-up : (alphabet : DistributedAlphabet) (scripts : List (List ℕ)) → FitAlphabet alphabet scripts → (places word : List ℕ) →
+    Fits (loc_of alphabet) (length alphabet.letters) (script_of scripts) word →
+    ((p : ℕ) → p < alphabet.processes → slice_index places p ≡ length (projection (loc_of alphabet) p word)) →
+    (((p : ℕ) → p < length scripts → slice_index places p ≡ length (script_of scripts p)) ↔ Weaves (loc_of alphabet) (length alphabet.letters) (script_of scripts) word)
+used-up alphabet scripts fit places word fits seen = (
+  λ used. record {
+    word = fits.word;
+    whole = λ p.
+        let k = fits.prefix p in
+        let e = ap length k.1 in
+        let l = length-append (projection (loc_of alphabet) p word) k.0 in
+        let n = fit.processes in
+        elim (cases_lt p (length scripts)) [
+          | inl lt ↦
+              let u = used p lt in
+              let o = seen p (omega arith) in
+              let none : k.0 ≡ [] = length-none k.0 (omega arith) in
+              sym (append-nil (projection (loc_of alphabet) p word)) ∙ ap (λ r. projection (loc_of alphabet) p word ++ r) (sym none) ∙ k.1
+          | inr ge ↦
+              let past : length (script_of scripts p) ≡ 0 = ap length (get_or_past scripts p [] ge) in
+              let none : k.0 ≡ [] = length-none k.0 (omega arith) in
+              sym (append-nil (projection (loc_of alphabet) p word)) ∙ ap (λ r. projection (loc_of alphabet) p word ++ r) (sym none) ∙ k.1
+        ];
+  },
+  λ weaves p l. let n = fit.processes in seen p (omega arith) ∙ ap length (weaves.whole p),
+)
+  where
+    length-none : (xs : List ℕ) → length xs ≡ 0 → xs ≡ []
+    length-none [] h = refl
+    length-none (x ∷ xs) h = absurd (omega arith)
+
 module _ (alphabet : DistributedAlphabet) (scripts : List (List ℕ)) (al : IsAlphabet (loc_of alphabet) (length alphabet.letters) alphabet.processes) (fit : FitAlphabet alphabet scripts) where
   -- a complete letter is enabled
   complete-enabled : (places : List ℕ) (sets : List Procs) (word : List ℕ) (a : ℕ) → Stands alphabet scripts places sets word → a < length alphabet.letters → IsGathered alphabet sets a →
@@ -126,15 +168,7 @@ module _ (alphabet : DistributedAlphabet) (scripts : List (List ℕ)) (al : IsAl
         fits = fits;
         size = size ∙ s.size;
         letters = letters ∙ s.letters;
-        seen = λ p pl.
-            let n = fit.processes in
-            let m = step p (omega arith) in
-            let o = s.seen p pl in
-            let f = ap length (filter-append (λ b. has (loc b) p) word (a ∷ [])) ∙ length-append (projection loc p word) (projection loc p (a ∷ [])) in
-            elim (cases_Bool (has (loc a) p)) [
-              | inl t ↦ let z = ap length (seen-take loc p a [] t) in let y : cond {A = ℕ} (has (loc a) p) 1 0 ≡ 1 = cond-true (has (loc a) p) 1 0 t in omega arith
-              | inr t ↦ let z = ap length (seen-skip loc p a [] t) in let y : cond {A = ℕ} (has (loc a) p) 1 0 ≡ 0 = cond-false (has (loc a) p) 1 0 t in omega arith
-            ];
+        seen = λ p pl. let n = fit.processes in seen-more loc places moved word a p (step p (omega arith)) (s.seen p pl);
         ready = ready;
         same = s.same
             ∙ from-step loc (length alphabet.letters) (script_of scripts) (total (script_of scripts) alphabet.processes - length word)
@@ -164,29 +198,4 @@ module _ (alphabet : DistributedAlphabet) (scripts : List (List ℕ)) (al : IsAl
   -- the word weaves the scripts exactly if each is used up
   pub stands-whole : (places : List ℕ) (sets : List Procs) (word : List ℕ) → Stands alphabet scripts places sets word →
       (((p : ℕ) → p < length scripts → slice_index places p ≡ length (script_of scripts p)) ↔ Weaves (loc_of alphabet) (length alphabet.letters) (script_of scripts) word)
-  stands-whole places sets word s = (
-    λ used. record {
-      word = s.fits.word;
-      whole = λ p.
-          let k = s.fits.prefix p in
-          let e = ap length k.1 in
-          let l = length-append (projection (loc_of alphabet) p word) k.0 in
-          let n = fit.processes in
-          elim (cases_lt p (length scripts)) [
-            | inl lt ↦
-                let u = used p lt in
-                let o = s.seen p (omega arith) in
-                let none : k.0 ≡ [] = length-none k.0 (omega arith) in
-                sym (append-nil (projection (loc_of alphabet) p word)) ∙ ap (λ r. projection (loc_of alphabet) p word ++ r) (sym none) ∙ k.1
-            | inr ge ↦
-                let past : length (script_of scripts p) ≡ 0 = ap length (get_or_past scripts p [] ge) in
-                let none : k.0 ≡ [] = length-none k.0 (omega arith) in
-                sym (append-nil (projection (loc_of alphabet) p word)) ∙ ap (λ r. projection (loc_of alphabet) p word ++ r) (sym none) ∙ k.1
-          ];
-    },
-    λ weaves p l. let n = fit.processes in s.seen p (omega arith) ∙ ap length (weaves.whole p),
-  )
-    where
-      length-none : (xs : List ℕ) → length xs ≡ 0 → xs ≡ []
-      length-none [] h = refl
-      length-none (x ∷ xs) h = absurd (omega arith)
+  stands-whole places sets word s = used-up alphabet scripts fit places word s.fits s.seen

@@ -1,5 +1,5 @@
 -- What contracts see of scripts: the list of the scripts of all processes, in the order of their numbers.
-use Rattle.std.specs.Prelude.{◌≡◌, ℕ, ◌<◌, ◌≤◌, ◌==◌, not, IsTrue, List}
+use Rattle.std.specs.Prelude.{◌≡◌, ℕ, ◌+◌, ◌<◌, ◌≤◌, ◌==◌, nat_lt, not, IsTrue, List}
 use Rattle.std.specs.Prelude.{[], length, slice_index_or, All, Option, Some, None, if◌then◌else◌}
 use Rattle.za_alpha.specs.Limits.{most_processes}
 use Rattle.za_alpha.specs.declared.word.Letter.{Letter}
@@ -39,3 +39,9 @@ abbrev pub add_fault : DistributedAlphabet → List (List ℕ) → ℕ → Lette
 add_fault alphabet scripts p a =
     if not (has (loc_of alphabet a.0) p) then Some (Foreign p a)
     else (if total_of scripts == most_script_letters then Some Full else None)
+
+-- why a run of so many letters can't be appended to the script of p, if it can't
+abbrev pub add_run_fault : DistributedAlphabet → List (List ℕ) → ℕ → Letter → ℕ → Option ScriptFault
+add_run_fault alphabet scripts p a count =
+    if not (has (loc_of alphabet a.0) p) then Some (Foreign p a)
+    else (if nat_lt most_script_letters (total_of scripts + count) then Some Full else None)

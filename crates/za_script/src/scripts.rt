@@ -3,6 +3,7 @@ ghost use Rattle.std.specs.Prelude.{MatchResult, unwrap_or, length, replicate, s
 ghost use Rattle.za_alpha.specs.Limits.{most_processes};
 ghost use Rattle.za_alpha.specs.Letters.{numbers};
 ghost use Rattle.za_script.specs.ScriptLists.{script_of, total_of, AreScripts, IsLetterOf, FitAlphabet, add_fault};
+ghost use Rattle.za_script.specs.ScriptLists.{add_run_fault};
 
 use crate::fault::{MOST_SCRIPT_LETTERS, ScriptFault};
 use std::alloc::Global;
@@ -86,6 +87,41 @@ impl Scripts {
         }
         self.words[p].push(a)?;
         self.letters += 1;
+        Ok(())
+    }
+
+    /// Appends a letter `count` times to the script of process `p`, or none. It is refused as foreign
+    /// where `p` is no process of the letter, and else as full where there would be more than 65,536
+    /// letters. After an error, memory that is refused among them, the scripts are as they were.
+    pub fn add_run(
+        &mut self,
+        alphabet: &Alphabet,
+        p: usize,
+        a: Letter,
+        count: u32,
+    ) -> Result<(), ScriptFault>
+        requires process { p < length self.old }
+        requires of_alphabet { p < alphabet.now.processes }
+        requires letter { a.0 < length alphabet.now.letters }
+        requires some { 0 < count }
+        ensures fault { MatchResult result
+            (λ _. add_run_fault alphabet.now self.old p a count ≡ None)
+            (λ e. e ≡ unwrap_or (add_run_fault alphabet.now self.old p a count) ScriptFault.OutOfMemory) }
+        ensures ok { OnOk result
+            (self.new ≡ slice_set self.old p (script_of self.old p ++ replicate count a.0)) }
+        ensures err { OnErr result (self.new ≡ self.old) }
+    {
+        if !is_letter_of(alphabet, p, a) {
+            return Err(ScriptFault::Foreign {
+                process: p,
+                letter: a,
+            });
+        }
+        if count as usize > MOST_SCRIPT_LETTERS - self.letters {
+            return Err(ScriptFault::Full);
+        }
+        self.words[p].push_run(a, count)?;
+        self.letters += count as usize;
         Ok(())
     }
 

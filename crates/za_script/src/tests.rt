@@ -78,6 +78,53 @@ fn letters_are_appended_or_refused(rt: HostRuntime) -> Result<(), Fail> {
     Ok(())
 }
 
+/// Appends runs of letters, each to a script: the answers, and how many letters there are after each.
+fn assert_runs(
+    rt: &impl Abort,
+    scripts: &mut Scripts,
+    alphabet: &Alphabet,
+    runs: &[(usize, u8, u32, Result<(), ScriptFault>, usize)],
+) {
+    for (p, a, count, answer, total) in runs {
+        assert!(rt; *p < scripts.processes() && *p < alphabet.processes());
+        assert!(rt; (*a as usize) < alphabet.letters() && 0 < *count);
+        assert!(rt; scripts.add_run(alphabet, *p, Letter(*a), *count) == *answer);
+        assert_eq!(rt; scripts.total(), *total);
+    }
+}
+
+#[test]
+fn runs_are_appended_whole_or_refused(rt: HostRuntime) -> Result<(), Fail> {
+    let alloc = rt.alloc();
+    let alphabet = alphabet_of(alloc, 2, &TWO_PROCESSES)?;
+    let foreign = ScriptFault::Foreign {
+        process: 0,
+        letter: Letter(1),
+    };
+    let mut scripts = Scripts::empty(alloc, 2)?;
+    assert_runs(
+        &rt,
+        &mut scripts,
+        &alphabet,
+        &[
+            (0, 0, 2, Ok(()), 2),
+            (0, 1, 1, Err(foreign), 2),
+            (0, 0, 65535, Err(ScriptFault::Full), 2),
+            (0, 2, 1, Ok(()), 3),
+            (0, 1, 70000, Err(foreign), 3),
+        ],
+    );
+    assert_script(&rt, &scripts, 0, &[0, 0, 2]);
+    assert_script(&rt, &scripts, 1, &[]);
+    assert_runs(
+        &rt,
+        &mut scripts,
+        &alphabet,
+        &[(1, 1, 65533, Ok(()), 65536)],
+    );
+    Ok(())
+}
+
 #[test]
 fn scripts_fit_their_alphabet(rt: HostRuntime) -> Result<(), Fail> {
     let alloc = rt.alloc();

@@ -9,7 +9,7 @@ use Rattle.za_local.specs.Same.{same_local}
 use Rattle.za_local.proofs.Same.{same_local-is, is-same_local}
 use Rattle.za_records.specs.Shelf.{Shelf, at, count, count_of, live, passes, Changes, AreCounted}
 use Rattle.za_records.specs.declared.shelf.Counted.{Counted}
-use Rattle.za_shared.specs.Holders.{value, value_of, holders}
+use Rattle.za_shared.specs.Holders.{value, held_value, holders}
 use Rattle.za_shared.specs.Records.{Records, AreRecords}
 use Rattle.za_shared.specs.Private.Steps.{one, HaveMore}
 use Rattle.za_shared.proofs.Shelves.{one-self, one-other}
@@ -26,7 +26,7 @@ pub passes-live : (s : Shelf LocalState) (test : LocalState → Bool) (key : ℕ
 passes-live s test key counted h = let p = passed test (at s key) h in let n = counted key p.0 p.1 in let e = ap count_of p.1 in omega arith
 
 pub passes-value : (s : Shelf LocalState) (v : LocalState) (key : ℕ) → passes (λ x. same_local x v) (at s key) ≡ true → value s key ≡ v
-passes-value s v key h = let p = passed (λ x. same_local x v) (at s key) h in ap value_of p.1 ∙ same_local-is p.0.value v p.2
+passes-value s v key h = let p = passed (λ x. same_local x v) (at s key) h in ap held_value p.1 ∙ same_local-is p.0.value v p.2
 
 some-counted : (o : Option (Counted LocalState)) → 0 < count_of o → (c : Counted LocalState) × (o ≡ Some c)
 some-counted None h = absurd (omega arith)
@@ -36,7 +36,7 @@ pub none-passes : (s : Shelf LocalState) (v : LocalState) → ((k : ℕ) → pas
     value s k ≡ v → ⊥
 none-passes s v h k some e =
     let p = some-counted (at s k) some in
-    let t : passes (λ x. same_local x v) (at s k) ≡ true = ap (passes (λ x. same_local x v)) p.1 ∙ is-same_local p.0.value v (sym (ap value_of p.1) ∙ e) in
+    let t : passes (λ x. same_local x v) (at s k) ≡ true = ap (passes (λ x. same_local x v)) p.1 ∙ is-same_local p.0.value v (sym (ap held_value p.1) ∙ e) in
     let z : true ≡ false = sym t ∙ h k in cc
 
 -- the call holds a live key once more
@@ -64,12 +64,12 @@ module _ (r : Records) (s : Shelf LocalState) (key : ℕ) (v : LocalState) (spar
   none = ap count_of vacant
 
   pub put-value : value s key ≡ v
-  put-value = ap value_of ch.here
+  put-value = ap held_value ch.here
 
   pub put-other : (k : ℕ) → 0 < count r.shelf k → (count s k ≡ count r.shelf k) × (value s k ≡ value r.shelf k)
   put-other k h = elim (cases_eq k key) [
     | inl e ↦ absurd (let z = ap (count r.shelf) e in let n = none in omega arith)
-    | inr n ↦ (ap count_of (ch.others k n), ap value_of (ch.others k n))
+    | inr n ↦ (ap count_of (ch.others k n), ap held_value (ch.others k n))
   ]
 
   other-live : (k : ℕ) → k ≢ key → 0 < count s k → 0 < count r.shelf k
@@ -79,11 +79,11 @@ module _ (r : Records) (s : Shelf LocalState) (key : ℕ) (v : LocalState) (spar
   apart j k a b e = elim (cases_eq j key) [
     | inl ej ↦ elim (cases_eq k key) [
       | inl ek ↦ ej ∙ sym ek
-      | inr nk ↦ absurd (lacks k (other-live k nk b) (sym (ap value_of (ch.others k nk)) ∙ sym e ∙ ap (value s) ej ∙ put-value))
+      | inr nk ↦ absurd (lacks k (other-live k nk b) (sym (ap held_value (ch.others k nk)) ∙ sym e ∙ ap (value s) ej ∙ put-value))
     ]
     | inr nj ↦ elim (cases_eq k key) [
-      | inl ek ↦ absurd (lacks j (other-live j nj a) (sym (ap value_of (ch.others j nj)) ∙ e ∙ ap (value s) ek ∙ put-value))
-      | inr nk ↦ ok.apart j k (other-live j nj a) (other-live k nk b) (sym (ap value_of (ch.others j nj)) ∙ e ∙ ap value_of (ch.others k nk))
+      | inl ek ↦ absurd (lacks j (other-live j nj a) (sym (ap held_value (ch.others j nj)) ∙ e ∙ ap (value s) ek ∙ put-value))
+      | inr nk ↦ ok.apart j k (other-live j nj a) (other-live k nk b) (sym (ap held_value (ch.others j nj)) ∙ e ∙ ap held_value (ch.others k nk))
     ]
   ]
 
@@ -103,7 +103,7 @@ module _ (r : Records) (s : Shelf LocalState) (key : ℕ) (v : LocalState) (spar
     | inl e ↦ subst (HasShape r.dfa.alphabet.processes r.dfa.states) (sym (ap (value s) e ∙ put-value))
         (all-last (HasShape r.dfa.alphabet.processes r.dfa.states) spares v
         (subst (All (HasShape r.dfa.alphabet.processes r.dfa.states)) split ok.spares_shaped))
-    | inr n ↦ subst (HasShape r.dfa.alphabet.processes r.dfa.states) (sym (ap value_of (ch.others k n))) (ok.shaped k (other-live k n h))
+    | inr n ↦ subst (HasShape r.dfa.alphabet.processes r.dfa.states) (sym (ap held_value (ch.others k n))) (ok.shaped k (other-live k n h))
   ]
 
   pub put-records : AreRecords (record r { shelf = s; own = key ∷ []; spares = spares })

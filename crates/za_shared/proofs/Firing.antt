@@ -18,7 +18,7 @@ use Rattle.za_records.specs.Shelf.{count}
 use Rattle.za_cache.specs.Lines.{LineKey, line_key, is_key}
 use Rattle.za_shared.specs.Holders.{no_local, value, values_at}
 use Rattle.za_shared.specs.Records.{Records, AreRecords, IsTransition, IsLine, IsRemembered, HasFired, locals_of}
-use Rattle.za_shared.specs.Private.Steps.{one, given, HaveMore, HasEntered, HasObtained, last_of}
+use Rattle.za_shared.specs.Private.Steps.{one, key_given, HaveMore, HasEntered, HasObtained, last_of}
 use Rattle.za_shared.proofs.Carrying.{count-more}
 use Rattle.za_shared.proofs.LineLists.{split-found, promoted-split, all-found, key-is}
 use Rattle.za_shared.proofs.Locals.{local-is, participants-after}
@@ -120,7 +120,7 @@ module _ (r : Records) (ok : AreRecords r) (a : ℕ) (la : a < length r.dfa.alph
   -- the participants have the record
   module _ (s t : Records) (key : ℕ) (first : HasObtained r s a) (own : s.own ≡ key ∷ [])
       (rest : t ≡ record s { shelf = t.shelf; own = []; keys = t.keys; spares = t.spares }) (done : AreRecords t) (before : AreRecords s)
-      (keys : (p : ℕ) → slice_index t.keys p ≡ given (loc_of r.dfa.alphabet a) key (length s.keys) s.keys p)
+      (keys : (p : ℕ) → slice_index t.keys p ≡ key_given (loc_of r.dfa.alphabet a) key (length s.keys) s.keys p)
       (values : (k : ℕ) → 0 < count t.shelf k → (0 < count s.shelf k) × (value t.shelf k ≡ value s.shelf k)) where
     same-key : key ≡ first.key
     same-key = let e : key ∷ [] ≡ first.key ∷ [] = sym own ∙ first.own in let q : key ≡ first.key = cc in q

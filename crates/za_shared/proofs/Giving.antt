@@ -7,7 +7,7 @@ use Rattle.std.proofs.lemmas.List.Sums.{sum_by-set}
 use Rattle.za_alpha.specs.Words.{has}
 use Rattle.za_records.specs.Shelf.{Shelf, count}
 use Rattle.za_local.specs.Locals.{LocalState, HasShape}
-use Rattle.za_shared.specs.Private.Steps.{one, given, HaveMore, HaveFewer, HaveChanged}
+use Rattle.za_shared.specs.Private.Steps.{one, key_given, HaveMore, HaveFewer, HaveChanged}
 use Rattle.za_shared.proofs.Shelves.{one-other}
 
 pub count-set : (k : ℕ) (keys : List ℕ) (p v : ℕ) → p < length keys →
@@ -15,12 +15,12 @@ pub count-set : (k : ℕ) (keys : List ℕ) (p v : ℕ) → p < length keys →
 count-set k keys p v l = let e = sum_by-set (λ (x : ℕ). cond {A = ℕ} (x == k) 1 0) keys p v 0 l in omega arith
 
 module _ (ps : List ℕ) (key p : ℕ) (keys : List ℕ) where
-  pub given-at : given ps key p keys p ≡ slice_index keys p
+  pub given-at : key_given ps key p keys p ≡ slice_index keys p
   given-at = cond-false (nat_lt p p && has ps p) key (slice_index keys p) (ap (λ b. b && has ps p) (le-ltb p p (omega arith)))
 
   -- the process p is one of them
-  pub given-in : (q : ℕ) (now : List ℕ) → has ps p ≡ true → p < length now → slice_index now q ≡ given ps key p keys q →
-      slice_index (set now p key) q ≡ given ps key (p + 1) keys q
+  pub given-in : (q : ℕ) (now : List ℕ) → has ps p ≡ true → p < length now → slice_index now q ≡ key_given ps key p keys q →
+      slice_index (set now p key) q ≡ key_given ps key (p + 1) keys q
   given-in q now t l e = elim (cases_eq q p) [
     | inl is ↦
         let c : (nat_lt q (p + 1) && has ps q) ≡ true = ap (λ b. b && has ps q) (lt-ltb q (p + 1) (omega arith)) ∙ ap (has ps) is ∙ t in
@@ -36,7 +36,7 @@ module _ (ps : List ℕ) (key p : ℕ) (keys : List ℕ) where
       ]
 
   -- it is not
-  pub given-out : (q : ℕ) (now : List ℕ) → has ps p ≡ false → slice_index now q ≡ given ps key p keys q → slice_index now q ≡ given ps key (p + 1) keys q
+  pub given-out : (q : ℕ) (now : List ℕ) → has ps p ≡ false → slice_index now q ≡ key_given ps key p keys q → slice_index now q ≡ key_given ps key (p + 1) keys q
   given-out q now f e = elim (cases_eq q p) [
     | inl is ↦
         let c : (nat_lt q (p + 1) && has ps q) ≡ false = ap (λ b. b && has ps q) (lt-ltb q (p + 1) (omega arith)) ∙ ap (has ps) is ∙ f in

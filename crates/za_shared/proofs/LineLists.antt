@@ -5,7 +5,7 @@ use Rattle.std.specs.Prelude.{count_by, ◌⊎◌}
 use Rattle.std.specs.List.{All}
 use Rattle.std.specs.Map.{lookup, lookup_entry, remove_entry}
 use Rattle.std.specs.Option.{option_map_or}
-use Rattle.std.specs.Cmp.Lexicographic.{pointwise}
+use Rattle.std.specs.Cmp.Lexicographic.{pointwise, same_text}
 use Rattle.std.proofs.lemmas.Bool.{cases_Bool, cond-true, cond-false, and_parts}
 use Rattle.std.proofs.lemmas.List.Elements.{All-head, All-tail, All-cons, All-nil, All-append}
 use Rattle.std.proofs.lemmas.List.Sums.{sum_by-append, sum_by-cons}
@@ -127,19 +127,10 @@ count-found {K} {X} test p es s t =
     let h = sum_by-cons f (s.key, s.value) s.after in
     let o = cond-true {A = ℕ} (p (s.key, s.value)) 1 0 t in omega arith
 
-same-list : (xs ys : List ℕ) → pointwise nat_eq xs ys ≡ true → xs ≡ ys
-same-list [] [] h = refl
-same-list [] (y ∷ ys) h = cc
-same-list (x ∷ xs) [] h = cc
-same-list (x ∷ xs) (y ∷ ys) h =
-    let b = and_parts (nat_eq x y) (pointwise nat_eq xs ys) h in
-    let e = eqb-true x y b.0 in
-    let t = same-list xs ys b.1 in cc
-
 -- a key that passes is the one that is looked for
 pub key-is : (letter : ℕ) (inputs : List ℕ) (k : LineKey) → is_key letter inputs k ≡ true → k ≡ line_key letter inputs
 key-is letter inputs k h =
     let b = and_parts (nat_eq letter k.letter) (pointwise nat_eq inputs k.inputs) h in
     let e = eqb-true letter k.letter b.0 in
-    let f = same-list inputs k.inputs b.1 in
+    let f = same_text inputs k.inputs (sym b.1) in
     (λ i. line_key (sym e i) (sym f i))

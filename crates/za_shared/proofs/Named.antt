@@ -6,7 +6,7 @@ use Rattle.std.specs.Prelude.{MatchBool}
 use Rattle.za_alpha.specs.Words.{has}
 use Rattle.za_records.specs.Shelf.{Shelf}
 use Rattle.za_local.specs.Locals.{LocalState}
-use Rattle.za_shared.specs.Private.Steps.{one, named, named_before, HaveMore, HaveFewer}
+use Rattle.za_shared.specs.Private.Steps.{one, named_by_line, named_before, HaveMore, HaveFewer}
 
 has-next : (xs : List ℕ) (i k : ℕ) → i < length xs → has (take (suc i) xs) k ≡ (has (take i xs) k || (slice_index xs i == k))
 has-next [] i k l = absurd (omega arith)
@@ -107,7 +107,7 @@ module _ (inputs : List ℕ) (output i : ℕ) (l : i < length inputs) where
   not-yet f = ap (λ u. cond {A = ℕ} (u && not (output == slice_index inputs i)) 1 0) f
 
 -- all inputs, and then the output
-pub named-all : (inputs : List ℕ) (output k : ℕ) → named inputs output k ≡ named_before inputs output (length inputs) k + one output k
+pub named-all : (inputs : List ℕ) (output k : ℕ) → named_by_line inputs output k ≡ named_before inputs output (length inputs) k + one output k
 named-all inputs output k = sym (ap (λ u. cond {A = ℕ} (u && not (output == k)) 1 0 + one output k) (has-whole inputs k) ∙ go (has inputs k) (output == k))
   where
     go : (h o : Bool) → cond {A = ℕ} (h && not o) 1 0 + cond {A = ℕ} o 1 0 ≡ cond {A = ℕ} (o || h) 1 0

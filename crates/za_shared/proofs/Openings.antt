@@ -12,7 +12,7 @@ use Rattle.za_local.proofs.Given.{locals-by-each}
 use Rattle.za_local.proofs.Shapes.{shape-after}
 use Rattle.za_records.specs.Shelf.{Shelf, count, count_of, live, Changes}
 use Rattle.za_records.specs.declared.shelf.Counted.{Counted}
-use Rattle.za_shared.specs.Holders.{no_local, value, value_of}
+use Rattle.za_shared.specs.Holders.{no_local, value, held_value}
 use Rattle.za_shared.specs.Records.{AreRecords, AreOpened, IsLine, bound}
 use Rattle.za_shared.specs.Private.Steps.{one}
 use Rattle.za_shared.proofs.Shelves.{one-other}
@@ -40,7 +40,7 @@ module _ (d : CompleteDfa) (ok : IsComplete d) (cache : ℕ) (few : cache < 2 ^ 
     (each : keys ≡ replicate d.alphabet.processes key) (rest : length spares + 1 ≡ bound d.alphabet.processes cache)
     (shaped : All (HasShape d.alphabet.processes d.states) spares) where
   here : value s key ≡ v
-  here = ap value_of ch.here
+  here = ap held_value ch.here
 
   only : (k : ℕ) → 0 < count s k → k ≡ key
   only k h = elim (cases_eq k key) [

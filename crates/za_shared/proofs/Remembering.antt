@@ -12,13 +12,13 @@ use Rattle.za_cache.specs.declared.rows.Kept.{Kept}
 use Rattle.za_cache.specs.declared.rows.Kept.TheVariants.{Stored, Replaced, Refused}
 use Rattle.za_shared.specs.Holders.{is_named}
 use Rattle.za_shared.specs.Records.{Records, AreRecords, IsLine}
-use Rattle.za_shared.specs.Private.Steps.{named, named_by, HaveMore, HaveFewer}
+use Rattle.za_shared.specs.Private.Steps.{named_by_line, named_by, HaveMore, HaveFewer}
 use Rattle.za_shared.proofs.Carrying.{carried, names, count-more}
 use Rattle.za_shared.proofs.LineLists.{all-begin}
 
 -- how often the lines name a key, before and after
 pub kept-counts : (old new : Lines) (line : LineKey × ℕ) (kept : Kept) → HasKept old new line kept → (k : ℕ) →
-    count_by (names k) new.lines + named_by kept k ≡ count_by (names k) old.lines + named line.0.inputs line.1 k
+    count_by (names k) new.lines + named_by kept k ≡ count_by (names k) old.lines + named_by_line line.0.inputs line.1 k
 kept-counts old new line Stored h k = let a = ap (λ (l : Lines). count_by (names k) l.lines) h.1 in let b = count-more (names k) line old.lines in omega arith
 kept-counts old new line (Replaced last) h k =
     let m = h.1 in
@@ -28,7 +28,7 @@ kept-counts old new line (Replaced last) h k =
     let d = sum_by_push (λ (l : LineKey × ℕ). cond {A = ℕ} (names k l) 1 0) m.0 (bare_line last) in omega arith
 kept-counts old new line (Refused given) h k =
     let a = ap (λ (l : Lines). count_by (names k) l.lines) h.0 in
-    let b = ap (λ (l : LineKey × ℕ). named l.0.inputs l.1 k) h.1 in omega arith
+    let b = ap (λ (l : LineKey × ℕ). named_by_line l.0.inputs l.1 k) h.1 in omega arith
 
 pub kept-few : (old new : Lines) (line : LineKey × ℕ) (kept : Kept) → HasKept old new line kept → length old.lines ≤ old.capacity →
     (length new.lines ≤ old.capacity) × (new.capacity ≡ old.capacity)
@@ -48,14 +48,14 @@ kept-all P old new line (Replaced last) h p all =
     let m = h.1 in subst (λ (l : Lines). All P l.lines) (sym m.2) (All-cons P line m.0 p (all-begin P m.0 (bare_line last ∷ []) (subst (All P) m.1 all)))
 kept-all P old new line (Refused given) h p all = subst (λ (l : Lines). All P l.lines) (sym h.0) all
 
-named-one : (inputs : List ℕ) (output k : ℕ) → 0 < named inputs output k → is_named inputs output k ≡ true
+named-one : (inputs : List ℕ) (output k : ℕ) → 0 < named_by_line inputs output k → is_named inputs output k ≡ true
 named-one inputs output k h = elim (cases_Bool (is_named inputs output k)) [
   | inl t ↦ t
   | inr f ↦ absurd (let o = cond-false {A = ℕ} (is_named inputs output k) 1 0 f in omega arith)
 ]
 
 module _ (r : Records) (ok : AreRecords r) (s t : Shelf LocalState) (spares : List LocalState) (line : LineKey × ℕ) (old new : Lines) (kept : Kept)
-    (rows : r.lines ≡ old.lines) (cache : r.cache ≡ old.capacity) (more : HaveMore r.shelf s (named line.0.inputs line.1)) (h : HasKept old new line kept)
+    (rows : r.lines ≡ old.lines) (cache : r.cache ≡ old.capacity) (more : HaveMore r.shelf s (named_by_line line.0.inputs line.1)) (h : HasKept old new line kept)
     (live : (k : ℕ) → is_named line.0.inputs line.1 k ≡ true → 0 < count r.shelf k) where
   pub kept-live : (k : ℕ) → 0 < named_by kept k → 0 < count s k
   kept-live k n =

@@ -7,7 +7,7 @@ use Rattle.std.proofs.lemmas.List.Elements.{All-push}
 use Rattle.za_records.specs.Shelf.{Shelf, at, live, count, count_of, Changes}
 use Rattle.za_records.specs.declared.shelf.Counted.{Counted}
 use Rattle.za_local.specs.Locals.{LocalState, HasShape}
-use Rattle.za_shared.specs.Holders.{value, value_of}
+use Rattle.za_shared.specs.Holders.{value, held_value}
 use Rattle.za_shared.specs.Private.Steps.{one, HaveMore, HaveFewer}
 
 pub one-self : (k : ℕ) → one k k ≡ 1
@@ -28,8 +28,8 @@ module _ (s t : Shelf LocalState) (key : ℕ) where
       | inr n ↦ let a = ap count_of (ch.others k n) in let o = one-other key k (λ (z : key ≡ k). n (sym z)) in omega arith
     ];
     values = λ k. elim (cases_eq k key) [
-      | inl is ↦ ap value_of (ap (at t) is ∙ ch.here) ∙ sym (ap value_of (ap (at s) is ∙ e))
-      | inr n ↦ ap value_of (ch.others k n)
+      | inl is ↦ ap held_value (ap (at t) is ∙ ch.here) ∙ sym (ap held_value (ap (at s) is ∙ e))
+      | inr n ↦ ap held_value (ch.others k n)
     ];
     live = l;
     capacity = ch.capacity;
@@ -53,7 +53,7 @@ module _ (s t : Shelf LocalState) (key : ℕ) where
     ];
     values = λ k some. elim (cases_eq k key) [
       | inl e ↦ absurd (let a = ap count_of (ap (at t) e ∙ ch.here) in omega arith)
-      | inr n ↦ ap value_of (ch.others k n)
+      | inr n ↦ ap held_value (ch.others k n)
     ];
     whole = let e = Rattle.std.proofs.Common.length-append spares (v ∷ []) in omega arith;
     capacity = ch.capacity;
@@ -69,8 +69,8 @@ module _ (s t : Shelf LocalState) (key : ℕ) where
       | inr n ↦ let a = ap count_of (ch.others k n) in let o = one-other key k (λ (z : key ≡ k). n (sym z)) in omega arith
     ];
     values = λ k some. elim (cases_eq k key) [
-      | inl is ↦ ap value_of (ap (at t) is ∙ ch.here) ∙ sym (ap value_of (ap (at s) is ∙ e))
-      | inr n ↦ ap value_of (ch.others k n)
+      | inl is ↦ ap held_value (ap (at t) is ∙ ch.here) ∙ sym (ap held_value (ap (at s) is ∙ e))
+      | inr n ↦ ap held_value (ch.others k n)
     ];
     whole = omega arith;
     capacity = ch.capacity;
@@ -91,11 +91,11 @@ module _ (s t : Shelf LocalState) (key : ℕ) where
     where
       go : (o : Option (Counted LocalState)) → at s key ≡ o → MatchOption o ⊥ (λ c. r ≡ Some c.value) → r ≡ Some (value s key)
       go None e h = absurd h
-      go (Some c) e h = h ∙ ap Some (sym (ap value_of e))
+      go (Some c) e h = h ∙ ap Some (sym (ap held_value e))
 
 pub value-got : (s : Shelf LocalState) (key : ℕ) (v : LocalState) → MatchOption (at s key) ⊥ (λ c. v ≡ c.value) → v ≡ value s key
 value-got s key v m = go (at s key) refl m
   where
     go : (o : Option (Counted LocalState)) → at s key ≡ o → MatchOption o ⊥ (λ c. v ≡ c.value) → v ≡ value s key
     go None e h = absurd h
-    go (Some c) e h = h ∙ sym (ap value_of e)
+    go (Some c) e h = h ∙ sym (ap held_value e)

@@ -13,13 +13,13 @@ no_local = record {
   residues = record { processes = 0; states = 0; values = [] };
 }
 
-abbrev pub value_of : Option (Counted LocalState) → LocalState
-value_of None = no_local
-value_of (Some c) = c.value
+abbrev pub held_value : Option (Counted LocalState) → LocalState
+held_value None = no_local
+held_value (Some c) = c.value
 
 -- the value of a key
 abbrev pub value : Shelf LocalState → ℕ → LocalState
-value s k = value_of (at s k)
+value s k = held_value (at s k)
 
 -- the values of the keys of these processes
 abbrev pub values_at : Shelf LocalState → List ℕ → List ℕ → List LocalState

@@ -5,7 +5,7 @@ ghost use Rattle.std.specs.Prelude.{length, take, slice_index, vec_capacity};
 ghost use Rattle.za_alpha.specs.Words.{has};
 ghost use Rattle.za_records.specs.Shelf.{count, live};
 ghost use Rattle.za_shared.specs.Holders.{is_named};
-ghost use Rattle.za_shared.specs.Private.Steps.{one, named, named_before, named_by, HaveMore, HaveFewer};
+ghost use Rattle.za_shared.specs.Private.Steps.{one, named_by_line, named_before, named_by, HaveMore, HaveFewer};
 
 use za_cache::Kept;
 use za_local::Local;
@@ -46,7 +46,7 @@ fn is_new(keys: &[u32], i: usize, output: u32) -> bool
 pub(crate) fn hold_line(shelf: &mut Shelf<Local>, inputs: &[u32], output: u32)
     requires live { (k : ℕ) → IsTrue (is_named inputs.now output k) → 0 < count shelf.old k }
     requires few { (k : ℕ) → count shelf.old k + 1 < 2 ^ 32 }
-    ensures { HaveMore shelf.old shelf.new (named inputs.now output) }
+    ensures { HaveMore shelf.old shelf.new (named_by_line inputs.now output) }
 {
     hold_inputs(shelf, inputs, output);
     hold(shelf, output);
@@ -74,7 +74,7 @@ pub(crate) fn let_go_line(
 )
     requires live { (k : ℕ) → IsTrue (is_named inputs.now output k) → 0 < count shelf.old k }
     requires room { live shelf.old + length spares.old.items ≤ vec_capacity spares.old }
-    ensures fewer { HaveFewer shelf.old shelf.new spares.old.items spares.new.items (named inputs.now output) }
+    ensures fewer { HaveFewer shelf.old shelf.new spares.old.items spares.new.items (named_by_line inputs.now output) }
     ensures capacity { vec_capacity spares.new ≡ vec_capacity spares.old }
 {
     let_go_inputs(shelf, spares, inputs, output);

@@ -6,7 +6,5 @@ mod holders;
 mod opening;
 mod seats;
 mod shared;
-#[cfg(test)]
-mod tests;
 
 pub use shared::SharedLocals;

@@ -2,7 +2,7 @@
 
 ghost use Rattle.std.specs.Prelude.{◌≡◌, ◌<◌, All, [], length, IfOk, vec_capacity};
 ghost use Rattle.za_local.specs.Locals.{HasShape};
-ghost use Rattle.za_shared.specs.Private.Inside.{lines_in, cache_in};
+ghost use Rattle.za_shared.specs.Private.Inside.{lines_of_rows, cache_in};
 
 use std::alloc::Global;
 use za_alpha::OutOfMemory;
@@ -31,7 +31,7 @@ pub(crate) fn openings(
 /// Rows for so many lines: none for 0.
 pub(crate) fn rows_for(alloc: Global, cache: u8) -> Result<Option<Rows>, OutOfMemory>
     ensures cache { IfOk result (λ rows. cache_in rows ≡ cache) }
-    ensures lines { IfOk result (λ rows. lines_in rows ≡ []) }
+    ensures lines { IfOk result (λ rows. lines_of_rows rows ≡ []) }
 {
     if cache == 0 {
         return Ok(None);

@@ -8,7 +8,7 @@ ghost use Rattle.za_alpha.specs.Procs.{members};
 ghost use Rattle.za_records.specs.Shelf.{count, live};
 ghost use Rattle.za_local.specs.Locals.{HasShape};
 ghost use Rattle.za_shared.specs.Holders.{value, values_at};
-ghost use Rattle.za_shared.specs.Private.Steps.{one, given, HaveChanged};
+ghost use Rattle.za_shared.specs.Private.Steps.{one, key_given, HaveChanged};
 
 use crate::holders::{hold, let_go};
 use smallvec::SmallVec;
@@ -106,7 +106,7 @@ pub(crate) fn give(
     requires few { (k : ℕ) → count shelf.old k + length keys.old + 1 < 2 ^ 32 }
     requires room { live shelf.old + length spares.old.items ≤ vec_capacity spares.old }
     ensures size { length keys.new ≡ length keys.old }
-    ensures keys { (p : ℕ) → slice_index keys.new p ≡ given (members processes) key (length keys.old) keys.old p }
+    ensures keys { (p : ℕ) → slice_index keys.new p ≡ key_given (members processes) key (length keys.old) keys.old p }
     ensures changed { HaveChanged shelf.old shelf.new spares.old.items spares.new.items keys.old keys.new }
     ensures capacity { vec_capacity spares.new ≡ vec_capacity spares.old }
 {

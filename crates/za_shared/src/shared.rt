@@ -1,6 +1,6 @@
 //! The local states of all processes, and how letters change them.
 
-ghost use Rattle.std.specs.Prelude.{◌≡◌, ◌<◌, ◌≤◌, ◌+◌, ℕ, List, [], ◌∷◌, Some, None, IsTrue, MatchBool, IfOk};
+ghost use Rattle.std.specs.Prelude.{◌≡◌, ◌<◌, ◌≤◌, ◌+◌, ℕ, List, [], ◌∷◌, Some, None, IsTrue, MatchBool, IfOk, IfSome};
 ghost use Rattle.std.specs.Prelude.{length, map, slice_index};
 ghost use Rattle.std.specs.Map.{lookup};
 ghost use Rattle.lru.specs.LruCache.{promoted};
@@ -16,7 +16,8 @@ ghost use Rattle.za_cache.specs.Lines.{is_key};
 ghost use Rattle.za_shared.specs.Holders.{value, values_at};
 ghost use Rattle.za_shared.specs.Records.{bound, locals_of, AreRecords, AreOpened, AreOfAWord};
 ghost use Rattle.za_shared.specs.Records.{IsTransition, IsRemembered, HasFired};
-ghost use Rattle.za_shared.specs.Private.Steps.{one, given, last_of, HaveMore, HasAdopted, HasEntered, HasObtained};
+ghost use Rattle.za_shared.specs.Private.Steps.{one, key_given, last_of, IsMade};
+ghost use Rattle.za_shared.specs.Private.Steps.{HaveMore, HasAdopted, HasEntered, HasObtained};
 
 use crate::holders::{hold, hold_line, let_go, let_go_kept};
 use crate::opening::{openings, rows_for};
@@ -28,6 +29,13 @@ use za_cache::Rows;
 use za_dfa::Closed;
 use za_local::{Bench, Local, opening, transit, verdict};
 use za_records::{Key, Shelf};
+
+/// A transition that was made elsewhere: the local states that it is of, and the one that it gives.
+#[derive(Clone, Copy)]
+struct Made<'a> {
+    bench: &'a Bench,
+    output: &'a Local,
+}
 
 /// The local states of all processes of an automaton, as counted records. The holders of a record are
 /// the processes whose local state it is and the cached transitions that name it. Equal local states
@@ -199,24 +207,24 @@ impl SharedLocals {
         self.spares[last].copy_from(made);
     }
 
-    /// The transition stands in the last spare record from then on: what was made, where the bench has
+    /// The transition stands in the last spare record from then on: what was made, where its bench has
     /// the participants' local states, and else it is computed now.
-    fn take_or_compute(&mut self, a: Letter, participants: Procs, bench: &Bench, made: &Local)
+    fn take_or_compute(&mut self, a: Letter, participants: Procs, made: Option<Made>)
         requires letter { a.0 < length self.old.dfa.alphabet.letters }
         requires participants { members participants ≡ loc_of self.old.dfa.alphabet a.0 }
         requires free { self.old.own ≡ [] }
         requires locals { AreOfAWord self.old }
-        requires processes { bench.now.processes ≡ self.old.dfa.alphabet.processes }
-        requires states { bench.now.states ≡ self.old.dfa.states }
-        requires made { IsTransition self.old.dfa a.0 bench.now.locals made.now }
+        requires made { IfSome made (λ m. IsMade self.old.dfa a.0 m.bench.now m.output.now) }
         ensures rest { self.new ≡ record self.old { spares = self.new.spares } }
         ensures some { 0 < length self.new.spares }
         ensures transition { IsTransition self.old.dfa a.0
             (values_at self.old.shelf self.old.keys (members participants)) (last_of self.new.spares) }
     {
-        if are_on(&self.shelf, &self.keys, participants, bench) {
-            self.copy_in(made);
-            return;
+        if let Some(made) = made {
+            if are_on(&self.shelf, &self.keys, participants, made.bench) {
+                self.copy_in(made.output);
+                return;
+            }
         }
         self.compute(a, participants);
     }
@@ -294,7 +302,7 @@ impl SharedLocals {
           spares = self.new.spares;
         } }
         ensures keys { (p : ℕ) → slice_index self.new.keys p ≡
-            given (members participants) key (length self.old.keys) self.old.keys p }
+            key_given (members participants) key (length self.old.keys) self.old.keys p }
         ensures values { (k : ℕ) → 0 < count self.new.shelf k →
             (0 < count self.old.shelf k) × (value self.new.shelf k ≡ value self.old.shelf k) }
     {
@@ -310,12 +318,13 @@ impl SharedLocals {
     }
 
     /// The call holds the record of the transition from then on: the output of its line where there is
-    /// one, and else what is computed now.
-    fn obtain(&mut self, a: Letter, participants: Procs)
+    /// one, and else what was made or is computed now.
+    fn obtain(&mut self, a: Letter, participants: Procs, made: Option<Made>)
         requires letter { a.0 < length self.old.dfa.alphabet.letters }
         requires participants { members participants ≡ loc_of self.old.dfa.alphabet a.0 }
         requires free { self.old.own ≡ [] }
         requires locals { AreOfAWord self.old }
+        requires made { IfSome made (λ m. IsMade self.old.dfa a.0 m.bench.now m.output.now) }
         ensures obtained { HasObtained self.old self.new a.0 }
         ensures records { AreRecords self.old }
     {
@@ -323,28 +332,25 @@ impl SharedLocals {
         if self.recall(a, inputs.as_slice()) {
             return;
         }
-        self.compute(a, participants);
+        self.take_or_compute(a, participants, made);
         self.enter(a, inputs.as_slice());
     }
 
-    /// The same, where what was made may be used.
-    fn obtain_made(&mut self, a: Letter, participants: Procs, bench: &Bench, made: &Local)
+    /// Fires a letter, with what was made where there is that.
+    fn fire_by(&mut self, a: Letter, participants: Procs, made: Option<Made>)
         requires letter { a.0 < length self.old.dfa.alphabet.letters }
         requires participants { members participants ≡ loc_of self.old.dfa.alphabet a.0 }
         requires free { self.old.own ≡ [] }
         requires locals { AreOfAWord self.old }
-        requires processes { bench.now.processes ≡ self.old.dfa.alphabet.processes }
-        requires states { bench.now.states ≡ self.old.dfa.states }
-        requires made { IsTransition self.old.dfa a.0 bench.now.locals made.now }
-        ensures obtained { HasObtained self.old self.new a.0 }
-        ensures records { AreRecords self.old }
+        requires made { IfSome made (λ m. IsMade self.old.dfa a.0 m.bench.now m.output.now) }
+        ensures fired { HasFired self.old self.new a.0 }
+        ensures records { AreRecords self.new }
     {
-        let inputs = keys_of(*self.keys.allocator(), &self.keys, participants);
-        if self.recall(a, inputs.as_slice()) {
-            return;
+        self.obtain(a, participants, made);
+        if let Some(key) = self.own {
+            self.hand_over(participants, key);
+            let _closed = self.closed();
         }
-        self.take_or_compute(a, participants, bench, made);
-        self.enter(a, inputs.as_slice());
     }
 
     /// Fires a letter: its participants get one local state, the transition of theirs, and all others
@@ -358,11 +364,7 @@ impl SharedLocals {
         ensures fired { HasFired self.old self.new a.0 }
         ensures records { AreRecords self.new }
     {
-        self.obtain(a, participants);
-        if let Some(key) = self.own {
-            self.hand_over(participants, key);
-            let _closed = self.closed();
-        }
+        self.fire_by(a, participants, None);
     }
 
     /// Fires a letter whose transition was computed elsewhere: `made` is the transition of the local
@@ -379,10 +381,13 @@ impl SharedLocals {
         ensures fired { HasFired self.old self.new a.0 }
         ensures records { AreRecords self.new }
     {
-        self.obtain_made(a, participants, bench, made);
-        if let Some(key) = self.own {
-            self.hand_over(participants, key);
-            let _closed = self.closed();
-        }
+        self.fire_by(
+            a,
+            participants,
+            Some(Made {
+                bench,
+                output: made,
+            }),
+        );
     }
 }

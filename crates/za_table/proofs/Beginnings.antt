@@ -1,5 +1,5 @@
 -- A table at the start.
-use Rattle.std.proofs.Common.{◌≡◌, ℕ, zero, suc, ◌<◌, ◌≤◌, false, Bool, List, [], Option, None, length, replicate, slice_index, slice_index_or, refl, sym, ap, subst, ◌∙◌, arith}
+use Rattle.std.proofs.Common.{◌≡◌, ℕ, ◌≤◌, false, Bool, List, [], Option, None, length, replicate, slice_index, slice_index_or, sym, ap, subst, ◌∙◌, arith}
 use Rattle.std.proofs.lemmas.List.{length-replicate, get_or-replicate}
 use Rattle.za_alpha.specs.declared.word.Letter.{Letter}
 use Rattle.za_alpha.specs.Letters.{numbers}

@@ -1,5 +1,5 @@
 -- A bench without local states is that of no letter's processes.
-use Rattle.std.proofs.Common.{◌≡◌, ℕ, true, false, List, [], ◌∷◌, map, ◌∙◌}
+use Rattle.std.proofs.Common.{◌≡◌, ℕ, true, false, List, [], ◌∷◌, map}
 use Rattle.za_alpha.specs.Words.{has}
 use Rattle.za_alpha.specs.Alphabet.{loc_of}
 use Rattle.za_dfa.specs.Tables.{CompleteDfa}

@@ -1,9 +1,9 @@
 -- A letter whose processes have all arrived at it.
-use Rattle.std.proofs.Common.{◌≡◌, ℕ, ◌<◌, ◌&&◌, ◌==◌, not, true, false, Bool, List, [], ◌∷◌, refl, ap, sym, ◌∙◌, ◌↔◌, eq-eqb, inl, inr, subst, arith}
+use Rattle.std.proofs.Common.{◌≡◌, ℕ, ◌&&◌, ◌==◌, not, true, false, Bool, List, [], ◌∷◌, refl, ap, sym, ◌∙◌, ◌↔◌, eq-eqb, inl, inr}
 use Rattle.std.specs.List.{list_all}
 use Rattle.std.proofs.lemmas.Bool.{cases_Bool, or_left, and_from, and_parts}
 use Rattle.za_alpha.specs.Words.{has}
-use Rattle.za_script.proofs.Lists.{all-at, all-from, all-fails}
+use Rattle.za_script.proofs.Lists.{all-at, all-fails}
 
 pub all-not : (test : ℕ → Bool) (ps : List ℕ) (p : ℕ) → has ps p ≡ true → test p ≡ false → list_all test ps ≡ false
 all-not test ps p h f = elim (cases_Bool (list_all test ps)) [

@@ -1,5 +1,5 @@
 -- A table after a firing.
-use Rattle.std.proofs.Common.{◌≡◌, ℕ, ◌+◌, ◌<◌, ◌≤◌, true, List, [], ◌∷◌, ◌++◌, Bool, Option, length, slice_index, refl, sym, ap, subst, ◌∙◌, arith, length-append}
+use Rattle.std.proofs.Common.{◌≡◌, ℕ, ◌<◌, ◌≤◌, true, List, [], ◌∷◌, ◌++◌, Bool, Option, length, slice_index, refl, sym, ap, subst, ◌∙◌, arith, length-append}
 use Rattle.std.proofs.lemmas.List.{length-map}
 use Rattle.za_alpha.specs.declared.word.Letter.{Letter}
 use Rattle.za_alpha.specs.Letters.{numbers}
@@ -16,10 +16,10 @@ use Rattle.za_machine.proofs.States.{reached-sound, reached_more, complete-here}
 use Rattle.za_shared.specs.Records.{Records, AreRecords, HasFired}
 use Rattle.za_table.specs.declared.table.Table.TheInside.{Inside}
 use Rattle.za_table.specs.declared.progress.Progress.{Progress}
-use Rattle.za_table.specs.Tables.{Given, TableState, IsTable, machine_of, label_at}
+use Rattle.za_table.specs.Tables.{Given, IsTable, machine_of, label_at}
 use Rattle.za_table.specs.Private.Steps.{HasAppended, IsProgress}
 use Rattle.za_table.specs.Private.Inside.{given_in, state_in, table_in, IsTableInside}
-use Rattle.za_table.proofs.Keeping.{machine, sound, whole, fires}
+use Rattle.za_table.proofs.Keeping.{machine, sound, fires}
 use Rattle.za_table.proofs.Progressing.{appended}
 
 module _ (t : Inside) (ok : IsTableInside t) (a : ℕ) (h : IsAllowed (machine_of (given_in t)) (state_in t) (Fire a)) where

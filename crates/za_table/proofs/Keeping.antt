@@ -1,10 +1,10 @@
 -- What the calls of a table keep of what holds of each table.
-use Rattle.std.proofs.Common.{◌≡◌, ℕ, ◌≤◌, [], List, Option, Some, None, length, sym, ap, subst, arith, slice_set}
+use Rattle.std.proofs.Common.{◌≡◌, ℕ, [], List, Option, Some, None, sym, ap, subst, arith, slice_set}
 use Rattle.std.proofs.lemmas.List.{get_or_past}
 use Rattle.za_alpha.specs.Alphabet.{IsDistributed, loc_of}
 use Rattle.za_dfa.specs.Tables.{CompleteDfa, IsComplete}
 use Rattle.za_script.specs.ScriptLists.{FitAlphabet}
-use Rattle.za_machine.specs.Machine.{IsMachine, State, IsMachineState, Event, Arrive, Fire, End, arrive, fire, end_at, after_event, IsAllowed}
+use Rattle.za_machine.specs.Machine.{IsMachine, State, IsMachineState, Event, Arrive, End, arrive, fire, end_at, after_event, IsAllowed}
 use Rattle.za_machine.specs.Hands.{hand, AreInHand, IsInHand, IsFree, Happen, TakeUp, Settle, PutBack}
 use Rattle.za_machine.specs.Private.Standing.{IsSound}
 use Rattle.za_machine.proofs.States.{reached-sound}

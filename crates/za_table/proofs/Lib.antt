@@ -1,4 +1,3 @@
-pub mod Vectors
 pub mod Entries
 pub mod KnownLabels
 pub mod Keeping

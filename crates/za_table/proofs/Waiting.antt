@@ -1,7 +1,7 @@
 -- Who waits at a letter has it as its next one.
 use Rattle.std.proofs.Common.{◌≡◌, ℕ, ◌<◌, ◌≤◌, ◌==◌, ◌⊎◌, nat_lt, Bool, true, false, inl, inr, List, length, slice_index, sym, ap, subst, ◌∙◌, arith, Option, Some, None, ltb-true, eqb-true}
 use Rattle.std.specs.Option.{option_map, IfSome, IsSome, IsNone}
-use Rattle.std.specs.List.{slice_get, list_all}
+use Rattle.std.specs.List.{slice_get}
 use Rattle.std.proofs.lemmas.Option.{slice_get_past, slice_get-get_or, none-some}
 use Rattle.std.proofs.lemmas.Bool.{cases_Bool, cases_lt, and_parts}
 use Rattle.std.proofs.lemmas.List.Elements.{All-get_or}

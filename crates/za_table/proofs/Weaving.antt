@@ -1,32 +1,23 @@
 -- Complete letters are the enabled ones where everyone has arrived who can, and firing the least is a step of the weave.
-use Rattle.std.proofs.Common.{◌≡◌, ◌≢◌, ℕ, zero, suc, ◌-◌, ◌<◌, ◌≤◌, ◌&&◌, ◌||◌, ◌==◌, nat_lt, Bool, true, false, inl, inr, List, [], ◌∷◌, ◌++◌, length, slice_index, get_or, refl, sym, ap, subst, ◌∙◌, arith, cond, length-append, ltb-true, get_or-set_same, Option, Some, None}
+use Rattle.std.proofs.Common.{◌≡◌, ◌≢◌, ℕ, zero, suc, ◌-◌, ◌<◌, ◌≤◌, ◌&&◌, ◌||◌, ◌==◌, nat_lt, Bool, true, false, inl, inr, List, [], ◌∷◌, ◌++◌, length, slice_index, refl, sym, ap, subst, ◌∙◌, arith, length-append, ltb-true, get_or-set_same, Option, Some, None}
 use Rattle.std.specs.Option.{is_some, option_map}
 use Rattle.za_alpha.specs.declared.word.Letter.{Letter}
 use Rattle.std.specs.List.{list_all, slice_get}
 use Rattle.std.proofs.lemmas.Option.{slice_get_past, slice_get-get_or}
-use Rattle.std.proofs.lemmas.Bool.{cases_Bool, cases_lt, cases_eq, and_parts, or_right, lt-ltb, le-ltb, cond-true, cond-false}
-use Rattle.za_alpha.specs.Words.{has, projection}
+use Rattle.std.proofs.lemmas.Bool.{cases_lt, cases_eq, and_parts, or_right}
+use Rattle.za_alpha.specs.Words.{projection}
 use Rattle.za_alpha.specs.Search.{least}
 use Rattle.za_script.specs.Scripts.{comes_next, is_enabled, total, weave_from}
-use Rattle.za_alpha.proofs.Least.{least-true, least-below}
+use Rattle.za_alpha.proofs.Least.{least-true, least-below, least-none, least-within, least-agree}
+use Rattle.za_script.proofs.Lists.{all-agree}
 use Rattle.za_script.proofs.Confluence.{fits-length}
-use Rattle.za_machine.specs.Machine.{Machine, IsMachine, State, is_in, fired_by, next, is_complete, IsOver, Event, Fire, arrive, fire, end_at, IsAllowed, IsMachineState}
+use Rattle.za_script.proofs.Standing.{from-end, from-step}
+use Rattle.za_machine.specs.Machine.{Machine, IsMachine, State, is_in, fired_by, next, is_complete, IsOver, Fire, arrive, fire, end_at, IsAllowed, IsMachineState}
 use Rattle.za_machine.proofs.States.{reached_more, reached-sound, none_left}
 use Rattle.za_alpha.specs.Alphabet.{loc_of}
 use Rattle.za_script.specs.ScriptLists.{script_of}
 use Rattle.za_table.specs.Tables.{Given, TableState, IsTable, machine_of}
 use Rattle.za_table.proofs.Keeping.{machine}
-
-least-agree : (s t : ℕ → Bool) (n : ℕ) → ((k : ℕ) → k < n → s k ≡ t k) → least s n ≡ least t n
-least-agree s t zero h = refl
-least-agree s t (suc n) h =
-    ap (λ b. cond b 0 (suc (least (λ k. s (suc k)) n))) (h 0 (omega arith)) ∙ ap (λ m. cond (t 0) 0 (suc m)) (least-agree (λ k. s (suc k)) (λ k. t (suc k)) n (λ k l. h (suc k) (omega arith)))
-
-all-agree : (s t : ℕ → Bool) (ps : List ℕ) → ((p : ℕ) → has ps p ≡ true → s p ≡ t p) → list_all s ps ≡ list_all t ps
-all-agree s t [] h = refl
-all-agree s t (p ∷ ps) h =
-    let e = h p (Rattle.za_script.proofs.Lists.has-own p ps) in
-    let k = all-agree s t ps (λ q m. h q (or_right (p == q) (has ps q) m)) in cc
 
 pub total-mono : (f : ℕ → List ℕ) (i n : ℕ) → i ≤ n → total f i ≤ total f n
 total-mono f i zero h = let e : i ≡ 0 = omega arith in subst (λ (k : ℕ). total f k ≤ 0) (sym e) (omega arith)
@@ -59,22 +50,8 @@ abbrev pub woven : Machine → List ℕ → List ℕ
 woven j w = weave_from j.loc j.letters j.scripts (total j.scripts j.processes - length w) w
 
 module _ (j : Machine) where
-  from-end : (more : ℕ) (w : List ℕ) → j.letters ≤ least (is_enabled j.loc j.scripts w) j.letters → weave_from j.loc j.letters j.scripts more w ≡ w
-  from-end zero w h = refl
-  from-end (suc more) w h =
-      let a = least (is_enabled j.loc j.scripts w) j.letters in
-      ap (λ b. elim b [ true ↦ weave_from j.loc j.letters j.scripts more (w ++ a ∷ []) | false ↦ w ]) (le-ltb a j.letters h)
-
-  from-step : (more n : ℕ) (w : List ℕ) (a : ℕ) → a ≡ least (is_enabled j.loc j.scripts w) j.letters → a < j.letters → more ≡ suc n → weave_from j.loc j.letters j.scripts more w ≡ weave_from j.loc j.letters j.scripts n (w ++ a ∷ [])
-  from-step zero n w a e l m = absurd (omega arith)
-  from-step (suc more) n w a e l m =
-      let b = least (is_enabled j.loc j.scripts w) j.letters in
-      let k : more ≡ n = omega arith in
-      ap (λ t. elim t [ true ↦ weave_from j.loc j.letters j.scripts more (w ++ b ∷ []) | false ↦ w ]) (lt-ltb b j.letters (rw (← e) l))
-      ∙ ap (λ x. weave_from j.loc j.letters j.scripts more (w ++ x ∷ [])) (sym e) ∙ ap (λ x. weave_from j.loc j.letters j.scripts x (w ++ a ∷ [])) k
-
   pub woven-end : (c : State) → IsMachine j → AllHere j c → j.letters ≡ least (is_complete j c) j.letters → woven j c.journal ≡ c.journal
-  woven-end c ok here e = from-end (total j.scripts j.processes - length c.journal) c.journal (let f = first-is-enabled j c ok here in omega arith)
+  woven-end c ok here e = from-end j.loc j.letters j.scripts (total j.scripts j.processes - length c.journal) c.journal (let f = first-is-enabled j c ok here in omega arith)
 
   pub room-for : (c : State) (a : ℕ) → IsMachine j → IsMachineState j c → IsAllowed j c (Fire a) → length c.journal < total j.scripts j.processes
   room-for c a ok r h =
@@ -90,7 +67,8 @@ module _ (j : Machine) where
       let f = first-is-enabled j c ok here in
       let n = room-for c a ok r (first-allowed c a e l) in
       let k = length-append c.journal (a ∷ []) in
-      from-step (total j.scripts j.processes - length c.journal) (total j.scripts j.processes - length (c.journal ++ a ∷ [])) c.journal a (e ∙ f) l (omega arith)
+      from-step j.loc j.letters j.scripts (total j.scripts j.processes - length c.journal) (total j.scripts j.processes - length (c.journal ++ a ∷ [])) c.journal a
+      (e ∙ f) l (omega arith)
 
   or_here : (x y : Bool) → x ≡ true → (x || y) ≡ true
   or_here true y h = refl
@@ -112,7 +90,7 @@ module _ (j : Machine) where
   pub over-only : (c : State) → IsOver j c → least (is_complete j c) j.letters ≡ j.letters
   over-only c o = elim (cases_lt (least (is_complete j c) j.letters) j.letters) [
     | inl l ↦ absurd (let t = least-true (is_complete j c) j.letters l in let f = o.quiet (least (is_complete j c) j.letters) l in cc)
-    | inr g ↦ (let k = Rattle.za_alpha.proofs.Least.least-none (is_complete j c) j.letters (λ a l. o.quiet a l) in sym k)
+    | inr g ↦ (let k = least-none (is_complete j c) j.letters (λ a l. o.quiet a l) in sym k)
   ]
 
 pub used-up : (h : TableState) (p : ℕ) → IsTable h → next (machine_of h.given) h.state.journal p ≡ None → projection (loc_of h.given.dfa.alphabet) p h.state.journal ≡ script_of h.given.scripts p
@@ -126,13 +104,6 @@ left-none xs k e = elim (cases_lt k (length xs)) [
 
 pub left-some : (xs : List ℕ) (k : ℕ) → length xs ≤ k → slice_get xs k ≡ None
 left-some xs k h = slice_get_past xs k h
-
-pub least-within : (t : ℕ → Bool) (n : ℕ) → least t n ≤ n
-least-within t zero = omega arith
-least-within t (suc n) = let k = least-within (λ k. t (suc k)) n in elim (cases_Bool (t 0)) [
-  | inl e ↦ let y : least t (suc n) ≡ 0 = cond-true (t 0) 0 (suc (least (λ k. t (suc k)) n)) e in omega arith
-  | inr e ↦ let y : least t (suc n) ≡ suc (least (λ k. t (suc k)) n) = cond-false (t 0) 0 (suc (least (λ k. t (suc k)) n)) e in omega arith
-]
 
 -- one turn of the loop, which begins at s: everyone arrives, which gives h, and the letter a is fired, which gives f
 module _ (s h f : TableState) (a : ℕ) (same : h.given ≡ s.given) (word : h.state.journal ≡ s.state.journal) (ok : IsTable h) (here : AllHere (machine_of h.given) h.state)

@@ -1,5 +1,6 @@
--- What contracts see of a table: the automaton and the scripts that it was opened on, the state of the core machine that it
--- is in, who has which letter in hand, and the local states of all processes, which they share with cached transitions.
+-- What contracts see of a table: the automaton and the scripts that it was opened on, the state of the core machine
+-- that it is in, who has which letter in hand, and the local states of all processes, which they share with cached
+-- transitions.
 use Rattle.std.specs.Prelude.{◌≡◌, ℕ, List, [], Option, length}
 use Rattle.za_alpha.specs.Words.{has}
 use Rattle.za_alpha.specs.Search.{greatest}
@@ -33,9 +34,9 @@ pub record TableState : Type 0 where
   pub hands : List (Option ℕ)
   pub shared : Records
 
--- what holds of each table: the scripts fit, allowed events lead to its state, letters in hand are complete and in hand of
--- one of their processes, each process has its local state after the journal, the records are right, and none is held by
--- a call
+-- what holds of each table: the scripts fit, allowed events lead to its state, letters in hand are complete and in
+-- hand of one of their processes, each process has its local state after the journal, the records are right, and none
+-- is held by a call
 pub record IsTable (t : TableState) : Type 0 where
   pub fit : FitAlphabet t.given.dfa.alphabet t.given.scripts
   pub reached : IsMachineState (machine_of t.given) t.state

@@ -9,7 +9,7 @@ ghost use Rattle.za_machine.specs.Machine.{IsOver, fired_by};
 ghost use Rattle.za_machine.specs.Answer.{answer_at};
 ghost use Rattle.za_local.specs.Locals.{local_after};
 ghost use Rattle.za_table.specs.Tables.{machine_of, label_at};
-ghost use Rattle.za_table.specs.Ends.{IsEnded};
+ghost use Rattle.za_table.specs.Ends.{IsEnded, HasAnswer};
 
 use crate::table::Table;
 use std::marker::Model;
@@ -48,7 +48,8 @@ impl Table {
     /// What the table leaves, which is over. It takes no memory.
     pub fn into_ended(mut self) -> Ended
         requires { IsOver (machine_of self.given) self.state }
-        ensures { result ≡ record { given = self.given; state = self.state } }
+        ensures value { result ≡ record { given = self.given; state = self.state } }
+        ensures answer { HasAnswer result }
     {
         let answer = self.answer();
         let Table {
@@ -107,7 +108,8 @@ impl Ended {
     /// The local state of process `p` after the word.
     pub fn local(&self, p: usize) -> &Local
         requires { p < self.now.given.dfa.alphabet.processes }
-        ensures { result.now ≡ local_after self.now.given.dfa self.now.state.journal p }
+        ensures value { result.now ≡ local_after self.now.given.dfa self.now.state.journal p }
+        ensures over { IsEnded self.now }
     {
         self.shared.local(p)
     }

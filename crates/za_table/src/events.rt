@@ -1,6 +1,7 @@
 //! What changes a table.
 
-ghost use Rattle.std.specs.Prelude.{◌≡◌, ℕ, ◌<◌, ◌∷◌, ◌++◌, [], length, slice_index, slice_set, vec_capacity, IsTrue, true, Some, None};
+ghost use Rattle.std.specs.Prelude.{◌≡◌, ℕ, ◌<◌, ◌∷◌, ◌++◌, [], length, slice_index, slice_set, vec_capacity};
+ghost use Rattle.std.specs.Prelude.{IsTrue, true, Some, None};
 ghost use Rattle.std.specs.List.{list_all};
 ghost use Rattle.za_alpha.specs.Words.{has};
 ghost use Rattle.za_alpha.specs.Letters.{numbers};
@@ -174,7 +175,8 @@ impl Table {
 /// place.
 fn append(shared: &SharedLocals, progress: &mut Progress, a: Letter) -> usize
     requires letter { a.0 < length shared.now.dfa.alphabet.letters }
-    requires locals { AreAllLocalsAfter shared.now.dfa (numbers progress.old.journal.items ++ a.0 ∷ []) (locals_of shared.now) }
+    requires locals { AreAllLocalsAfter shared.now.dfa
+        (numbers progress.old.journal.items ++ a.0 ∷ []) (locals_of shared.now) }
     requires journal { length progress.old.journal.items < vec_capacity progress.old.journal }
     requires labels { length progress.old.labels.items < vec_capacity progress.old.labels }
     requires counts { (p : ℕ) → IsTrue (has (loc_of shared.now.dfa.alphabet a.0) p) →

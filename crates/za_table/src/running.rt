@@ -3,7 +3,7 @@
 ghost use Rattle.std.specs.Prelude.{◌≡◌, IfOk};
 ghost use Rattle.za_script.specs.ScriptLists.{FitAlphabet};
 ghost use Rattle.za_script.specs.Woven.{weave_of};
-ghost use Rattle.za_table.specs.Ends.{IsEnded};
+ghost use Rattle.za_table.specs.Ends.{IsEnded, HasAnswer};
 
 use crate::ended::Ended;
 use crate::table::Table;
@@ -12,8 +12,8 @@ use za_alpha::OutOfMemory;
 use za_dfa::Closed;
 use za_script::Scripts;
 
-/// Runs a table on one thread until it is over. Its word is the weave of the scripts. Want of memory
-/// is the one free answer.
+/// Runs a table on one thread until it is over. Its word is the weave of the scripts, and its answer is
+/// that of the automaton to them. Want of memory is the one free answer.
 pub fn solo(
     alloc: Global,
     closed: Closed,
@@ -23,6 +23,7 @@ pub fn solo(
     requires { FitAlphabet closed.alphabet scripts }
     ensures given { IfOk result (λ e. e.given ≡ record { dfa = closed; scripts = scripts }) }
     ensures over { IfOk result IsEnded }
+    ensures answer { IfOk result HasAnswer }
     ensures word { IfOk result (λ e. e.state.journal ≡ weave_of closed.alphabet scripts) }
 {
     let mut table = Table::open(alloc, closed, scripts, cache)?;

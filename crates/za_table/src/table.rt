@@ -1,7 +1,7 @@
 //! What a table has, and what it tells.
 
-ghost use Rattle.std.specs.Prelude.{option_map, ◌≡◌, ℕ, ◌<◌, ◌≤◌, ◌↔◌, ◌&&◌, ◌||◌, [], length, IfOk, IfSome, IsSome, IsNone, IsTrue, true, Some, None};
-ghost use Rattle.std.specs.Prelude.{◌⊎◌};
+ghost use Rattle.std.specs.Prelude.{◌≡◌, ℕ, ◌<◌, ◌≤◌, ◌↔◌, ◌&&◌, ◌||◌, ◌⊎◌, [], length, option_map};
+ghost use Rattle.std.specs.Prelude.{IfOk, IfSome, IsSome, IsNone, IsTrue, true, Some, None};
 ghost use Rattle.za_alpha.specs.Limits.{most_letters, most_processes};
 ghost use Rattle.za_alpha.specs.Words.{has, projection};
 ghost use Rattle.za_alpha.specs.Procs.{members};

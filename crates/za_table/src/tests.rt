@@ -271,6 +271,31 @@ fn settled_by_what_was_made(rt: HostRuntime) -> Result<(), Fail> {
     Ok(())
 }
 
+/// Settles a letter by a bench that was cleared: the transition is computed again.
+fn settle_anew(table: &mut Table, a: Letter, bench: &mut Bench, made: &Local) -> usize
+    requires held { hand table.old.hands a.0 ≡ Some 0 }
+    requires processes { bench.old.processes ≡ table.old.given.dfa.alphabet.processes }
+    requires states { bench.old.states ≡ table.old.given.dfa.states }
+{
+    bench.clear();
+    table.settle(a, 0, bench, made)
+}
+
+#[test]
+fn settled_though_the_bench_was_cleared(rt: HostRuntime) -> Result<(), Fail> {
+    let alloc = rt.alloc();
+    let closed = to_and_fro(&rt, alloc)?;
+    let mut table = table_of(&rt, alloc, closed, &ACA_BC, 0)?;
+    assert_eq!(rt; arrive(&rt, &mut table, 0), Arrival::Complete(A));
+    let (mut bench, made) = take(&rt, alloc, &mut table, A)?;
+    assert_eq!(rt; settle_anew(&mut table, A, &mut bench, &made), 0);
+    assert_eq!(rt; bench.len(), 0);
+    assert_process(&rt, &table, 0);
+    assert!(rt; *table.local(0) == made);
+    assert_eq!(rt; table.live(), 2);
+    Ok(())
+}
+
 #[test]
 fn accepted_by_solo(rt: HostRuntime) -> Result<(), Fail> {
     let alloc = rt.alloc();

@@ -6,12 +6,14 @@ use Rattle.za_text.specs.declared.kind.Kind.TheVariants.{BadNumber, BadName, Pro
 use Rattle.za_text.specs.declared.kind.Kind.TheVariants.{EmptyLoc, NoSuchProcess, StateCount, NoSuchState}
 use Rattle.za_text.specs.declared.kind.Kind.TheVariants.{NoSuchLetter, TwoTargets, NotOfProcess, ScriptsFull}
 use Rattle.za_text.specs.declared.kind.Kind.TheVariants.{NoSuchAnswer, ClaimFull, BadEvent, NoSuchLabel}
+use Rattle.za_text.specs.declared.kind.Kind.TheVariants.{WideProcesses, RepeatedProcess, WideLetters, WideStates}
+use Rattle.za_text.specs.declared.kind.Kind.TheVariants.{BadRepeat}
 
 -- the text of a kind
 abbrev pub kind_text : Kind → List ℕ
 kind_text Cut = codes "line is cut"
 kind_text BadByte = codes "bad byte"
-kind_text Header = codes "header is not zla 1"
+kind_text Header = codes "header is not zla 1 or 2"
 kind_text OutOfOrder = codes "line is out of order"
 kind_text WordCount = codes "wrong number of words"
 kind_text NoEnd = codes "end is missing"
@@ -33,3 +35,8 @@ kind_text NoSuchAnswer = codes "no such answer"
 kind_text ClaimFull = codes "more than 65536 events"
 kind_text BadEvent = codes "bad event"
 kind_text NoSuchLabel = codes "no such label"
+kind_text WideProcesses = codes "processes not in 1 to 10"
+kind_text RepeatedProcess = codes "process is repeated"
+kind_text WideLetters = codes "more than 128 letters"
+kind_text WideStates = codes "states not in 1 to 128"
+kind_text BadRepeat = codes "bad repeat"

@@ -4,3 +4,6 @@ pub use Rattle.za_names.specs.Names
 pub mod Numbers
 pub mod Kinds
 pub mod Printed
+pub mod ProcessNames
+pub mod Private
+pub mod Divided

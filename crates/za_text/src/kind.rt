@@ -8,7 +8,7 @@ pub enum Kind {
     Cut,
     /// The line has a byte other than tab and 32 to 126.
     BadByte,
-    /// The first line with words isn't `zla 1`.
+    /// The first line with words is neither `zla 1` nor `zla 2`.
     Header,
     /// The first word doesn't stand at this place.
     OutOfOrder,
@@ -20,19 +20,19 @@ pub enum Kind {
     Trailing,
     /// A word that must be a number isn't one.
     BadNumber,
-    /// The letter's name isn't a name.
+    /// The letter's or the process's name isn't a name.
     BadName,
-    /// The number of processes isn't in 1 to 6.
+    /// Version 1: the number of processes isn't in 1 to 6.
     ProcessCount,
-    /// The line is the 33rd letter line.
+    /// Version 1: the line is the 33rd letter line.
     LetterCount,
     /// An earlier letter has the name.
     RepeatedName,
     /// No process follows the letter's name.
     EmptyLoc,
-    /// The number isn't below the number of processes.
+    /// Version 1: the number isn't below the number of processes; version 2: no process has the name.
     NoSuchProcess,
-    /// The number of states isn't in 1 to 32.
+    /// Version 1: the number of states isn't in 1 to 32.
     StateCount,
     /// The number isn't below the number of states.
     NoSuchState,
@@ -42,7 +42,7 @@ pub enum Kind {
     TwoTargets,
     /// The script's process is no process of the letter.
     NotOfProcess,
-    /// 65,536 script letters were read before this one.
+    /// The script letters read before and those of this item are more than 65,536.
     ScriptsFull,
     /// The claim's word is none of `accept`, `reject` and `stuck`.
     NoSuchAnswer,
@@ -52,6 +52,16 @@ pub enum Kind {
     BadEvent,
     /// The label is above the cube of the number of processes.
     NoSuchLabel,
+    /// Version 2: more than 10 names stand in the processes line.
+    WideProcesses,
+    /// Version 2: an earlier process name of the line is the same.
+    RepeatedProcess,
+    /// Version 2: the line is the 129th letter line.
+    WideLetters,
+    /// Version 2: the number of states isn't in 1 to 128.
+    WideStates,
+    /// Version 2: the part of a script's item after its `*` isn't a number, or is 0.
+    BadRepeat,
 }
 
 /// The first wrong line of a text, by its number from 1 on, and what is wrong with it.
@@ -69,7 +79,7 @@ impl Kind {
         match self {
             Kind::Cut => b"line is cut",
             Kind::BadByte => b"bad byte",
-            Kind::Header => b"header is not zla 1",
+            Kind::Header => b"header is not zla 1 or 2",
             Kind::OutOfOrder => b"line is out of order",
             Kind::WordCount => b"wrong number of words",
             Kind::NoEnd => b"end is missing",
@@ -91,6 +101,11 @@ impl Kind {
             Kind::ClaimFull => b"more than 65536 events",
             Kind::BadEvent => b"bad event",
             Kind::NoSuchLabel => b"no such label",
+            Kind::WideProcesses => b"processes not in 1 to 10",
+            Kind::RepeatedProcess => b"process is repeated",
+            Kind::WideLetters => b"more than 128 letters",
+            Kind::WideStates => b"states not in 1 to 128",
+            Kind::BadRepeat => b"bad repeat",
         }
     }
 }

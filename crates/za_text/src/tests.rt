@@ -1,4 +1,6 @@
 use super::*;
+use std::process::Abort;
+use std::test::Fail;
 
 const MOST_BYTES: usize = 4294967294;
 
@@ -117,7 +119,62 @@ fn kinds_have_texts(rt: HostRuntime) {
         (Kind::StateCount, b"states not in 1 to 32".as_slice()),
         (Kind::NotOfProcess, b"letter not of this process".as_slice()),
         (Kind::ClaimFull, b"more than 65536 events".as_slice()),
+        (Kind::Header, b"header is not zla 1 or 2".as_slice()),
+        (Kind::WideProcesses, b"processes not in 1 to 10".as_slice()),
+        (Kind::WideStates, b"states not in 1 to 128".as_slice()),
+        (Kind::BadRepeat, b"bad repeat".as_slice()),
     ] {
         assert_eq!(rt; kind.text(), text);
     }
+}
+
+/// Names with these, in order.
+fn add_all(rt: &impl Abort, names: &mut Names, more: &[&[u8]]) -> Result<(), Fail> {
+    for name in more {
+        assert!(rt; is_name(name) && names.find(name) == None && names.len() < 10);
+        names.add(name)?;
+    }
+    Ok(())
+}
+
+/// Which process has which name, and which words are no names of processes.
+fn assert_names(rt: &impl Abort, names: &Names, found: &[(&[u8], Option<usize>)]) {
+    for (word, process) in found {
+        assert_eq!(rt; names.find(word), *process, "{word:?}");
+        if let Some(p) = process {
+            assert!(rt; *p < names.len());
+            assert_eq!(rt; names.of(*p), *word);
+        }
+    }
+}
+
+#[test]
+fn processes_have_names(rt: HostRuntime) -> Result<(), Fail> {
+    let mut names = Names::empty(rt.alloc());
+    add_all(&rt, &mut names, &[b"left", b"right"])?;
+    assert!(rt; names.len() == 2 && names.are_names());
+    assert_names(
+        &rt,
+        &names,
+        &[
+            (b"left", Some(0)),
+            (b"right", Some(1)),
+            (b"b", None),
+            (b"0", None),
+        ],
+    );
+    let numbers = Names::numbers(rt.alloc(), 10)?;
+    assert!(rt; numbers.len() == 10 && !numbers.are_names());
+    assert_names(
+        &rt,
+        &numbers,
+        &[
+            (b"0", Some(0)),
+            (b"9", Some(9)),
+            (b"00", None),
+            (b"10", None),
+            (b"left", None),
+        ],
+    );
+    Ok(())
 }

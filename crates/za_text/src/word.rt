@@ -73,6 +73,17 @@ impl<'a> WordsOf<'a> {
         WordsOf { line, text, at: 0 }
     }
 
+    /// The same words once more, from where these have come to.
+    pub fn copy(&self) -> WordsOf<'a>
+        ensures { result ≡ self.now }
+    {
+        WordsOf {
+            line: self.line,
+            text: self.text,
+            at: self.at,
+        }
+    }
+
     /// The next word, and `None` exactly where no word is left; then nothing changes.
     pub fn next(&mut self) -> Option<Token>
         ensures { MatchOption result (IsLastWord self.old self.new) (IsNextWord self.old self.new) }

@@ -7,7 +7,5 @@ mod entries;
 mod events;
 mod labels;
 mod marks;
-#[cfg(test)]
-mod tests;
 
 pub use marks::Marks;

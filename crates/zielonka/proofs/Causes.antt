@@ -14,9 +14,9 @@ use Rattle.zielonka.specs.declared.request.Request.{Request}
 use Rattle.zielonka.specs.declared.request.Request.TheVariants.{Usage as AsksUsage, NotBuilt as AsksMore, Answer as Asks, Generate as AsksJob}
 use Rattle.za_gen.specs.Generated.{generated_text}
 use Rattle.zielonka.specs.Limits.{most_bytes}
-use Rattle.zielonka.specs.Output.{IsOutput, Refused, Read, IsDueFor, Open, Answered, IsAnswered, Ran, Checked, Told, usage_text, too_long_text, not_built_text, status_of}
-use Rattle.zielonka.specs.Run.{AreNoForm, AreNotBuilt, AskFor, AskForJob, ReadNothing, ReadNotTooMany, ReadTooMany, NoReadFailed, NoWriteFailed, WroteNothing, WroteAll, WrotePart, IsDue, Usage, NotBuilt, TooLong, Generated, Said, HasRun, Wrote, WriteFault, ReadFault, NoMemory}
-use Rattle.zielonka.specs.Laws.{UsageIsOfTheWords, WordsDecideTheUsage, NotBuiltIsOfTheWords, WordsDecideNotBuilt, WroteJob, WordsDecideTheJob, JobCompletes, AskForSome, ReadFaultIsOfTheSource, WriteFaultIsOfTheSink, CountsStay, TooLongIsOfTheBytes, TooManyDecide, TooManyComplete, NoMemoryWritesNothing, is_of_bytes, HasAnsweredAll, AnswerIsOfAllBytes, StatusesAreKnown, RunCompletes}
+use Rattle.zielonka.specs.Output.{IsOutput, Refused, Read, IsDueFor, Open, Answered, IsAnswered, Ran, RanOnThreads, Checked, Told, usage_text, too_long_text, not_built_text, status_of}
+use Rattle.zielonka.specs.Run.{ReadNothing, ReadNotTooMany, ReadTooMany, NoReadFailed, NoWriteFailed, WroteNothing, WroteAll, WrotePart, IsDue, Usage, NotBuilt, TooLong, Generated, Said, HasRun, Wrote, WriteFault, ReadFault, NoMemory}
+use Rattle.zielonka.specs.Laws.{UsageIsOfTheWords, WordsDecideTheUsage, NotBuiltIsOfTheWords, WordsDecideNotBuilt, WroteJob, WordsDecideTheJob, JobCompletes, AsksForSome, ReadFaultIsOfTheSource, WriteFaultIsOfTheSink, CountsStay, TooLongIsOfTheBytes, TooManyDecide, TooManyComplete, NoMemoryWritesNothing, is_of_bytes, HasAnsweredAll, AnswerIsOfAllBytes, StatusesAreKnown, RunCompletes}
 use Rattle.za_lang.specs.Jobs.{JobData}
 
 -- an answer's status is one of those of bytes
@@ -26,9 +26,10 @@ answer-status Reject = refl
 answer-status Stuck = refl
 
 answered-status : {job : JobData} {command : Command} {status : ℕ} {text : List ℕ} → IsAnswered job command status text → is_of_bytes status ≡ true
-answered-status (Ran answer right) = answer-status answer
-answered-status (Checked d minimal) = refl
-answered-status (Told d minimal) = refl
+answered-status (Ran cache answer right) = answer-status answer
+answered-status (RanOnThreads cache status text answered) = answered-status answered
+answered-status (Checked cache d minimal) = refl
+answered-status (Told cache d minimal) = refl
 
 -- the status that is due for a job or for bytes is one of those
 due-status : {job : JobData} {command : Command} {status : ℕ} {text : List ℕ} → IsDueFor command job status text → is_of_bytes status ≡ true
@@ -47,10 +48,10 @@ other status number h k e = let both : true ≡ false = sym h ∙ ap is_of_bytes
 usage-not-more : {a : Request} → a ≡ AsksUsage → a ≡ AsksMore → ⊥
 usage-not-more u m = absurd (let both : AsksUsage ≡ AsksMore = sym u ∙ m in cc)
 
-usage-not-read : {a : Request} (command : Command) → a ≡ AsksUsage → a ≡ Asks command → ⊥
+pub usage-not-read : {a : Request} (command : Command) → a ≡ AsksUsage → a ≡ Asks command → ⊥
 usage-not-read command u r = absurd (let both : AsksUsage ≡ Asks command = sym u ∙ r in cc)
 
-more-not-read : {a : Request} (command : Command) → a ≡ AsksMore → a ≡ Asks command → ⊥
+pub more-not-read : {a : Request} (command : Command) → a ≡ AsksMore → a ≡ Asks command → ⊥
 more-not-read command m r = absurd (let both : AsksMore ≡ Asks command = sym m ∙ r in cc)
 
 usage-not-job : {a : Request} (number : ℕ) → a ≡ AsksUsage → a ≡ AsksJob number → ⊥
@@ -59,23 +60,23 @@ usage-not-job number u j = absurd (let both : AsksUsage ≡ AsksJob number = sym
 more-not-job : {a : Request} (number : ℕ) → a ≡ AsksMore → a ≡ AsksJob number → ⊥
 more-not-job number m j = absurd (let both : AsksMore ≡ AsksJob number = sym m ∙ j in cc)
 
-read-not-job : {a : Request} (command : Command) (number : ℕ) → a ≡ Asks command → a ≡ AsksJob number → ⊥
+pub read-not-job : {a : Request} (command : Command) (number : ℕ) → a ≡ Asks command → a ≡ AsksJob number → ⊥
 read-not-job command number r j = absurd (let both : Asks command ≡ AsksJob number = sym r ∙ j in cc)
 
 -- the command that is asked for is one, and so is the number
-one-command : {a : Request} (c k : Command) → a ≡ Asks c → a ≡ Asks k → c ≡ k
+pub one-command : {a : Request} (c k : Command) → a ≡ Asks c → a ≡ Asks k → c ≡ k
 one-command c k e f = let both : Asks c ≡ Asks k = sym e ∙ f in cc
 
 one-number : {a : Request} (n k : ℕ) → a ≡ AsksJob n → a ≡ AsksJob k → n ≡ k
 one-number n k e f = let both : AsksJob n ≡ AsksJob k = sym e ∙ f in cc
 
 -- no more bytes are taken than there are
-taken_within : (bytes taken : List ℕ) (now : Option (List ℕ)) → Consumes (Some bytes) now taken → length taken ≤ length bytes
+pub taken_within : (bytes taken : List ℕ) (now : Option (List ℕ)) → Consumes (Some bytes) now taken → length taken ≤ length bytes
 taken_within bytes taken None h = absurd h
 taken_within bytes taken (Some left) h = let size : length bytes ≡ length (taken ++ left) = ap length h in omega (arith, length-append taken left)
 
 -- at the end all bytes are taken
-all_taken : (bytes taken : List ℕ) (now : Option (List ℕ)) → Consumes (Some bytes) now taken → IsAtEnd now → taken ≡ bytes
+pub all_taken : (bytes taken : List ℕ) (now : Option (List ℕ)) → Consumes (Some bytes) now taken → IsAtEnd now → taken ≡ bytes
 all_taken bytes taken None h e = absurd h
 all_taken bytes taken (Some left) h e = sym (h ∙ ap (λ rest. taken ++ rest) e ∙ append-nil taken)
 
@@ -85,65 +86,65 @@ one_length bytes one other None g h = absurd g
 one_length bytes one other (Some left) g h =
     let size : length (one ++ left) ≡ length (other ++ left) = ap length (sym g ∙ h) in omega (arith, length-append one left, length-append other left)
 
-module _ (words : List (List ℕ)) (old new : Ends) where
+module _ (asked : Request) (old new : Ends) where
   -- status 2, by what is due and by the run
-  usage_due : {status : ℕ} {text : List ℕ} → IsDue words old new status text → status ≡ 2 → AreNoForm words × ReadNothing old new × (text ≡ usage_text)
+  usage_due : {status : ℕ} {text : List ℕ} → IsDue asked old new status text → status ≡ 2 → (asked ≡ AsksUsage) × ReadNothing old new × (text ≡ usage_text)
   usage_due (Usage none nothing) e = (none, nothing, refl)
   usage_due (NotBuilt more nothing) e = absurd (omega arith)
   usage_due (TooLong command asks many) e = absurd (omega arith)
   usage_due (Generated number asks nothing) e = absurd (omega arith)
   usage_due (Said command bytes status text asks all output) e = absurd (other status 2 (output-status output) refl e)
 
-  usage_run : {status : ℕ} → HasRun words old new status → status ≡ 2 → AreNoForm words × ReadNothing old new × WroteAll old new usage_text
+  usage_run : {status : ℕ} → HasRun asked old new status → status ≡ 2 → (asked ≡ AsksUsage) × ReadNothing old new × WroteAll old new usage_text
   usage_run (Wrote status text due whole) e = let cause = usage_due due e in (cause.0, cause.1, subst (WroteAll old new) cause.2 whole)
   usage_run (WriteFault status k text due part) e = absurd (omega arith)
   usage_run (ReadFault command asks few rose nothing) e = absurd (omega arith)
   usage_run (NoMemory few same nothing) e = absurd (omega arith)
 
   -- words in no form
-  words_due : {status : ℕ} {text : List ℕ} → IsDue words old new status text → AreNoForm words → status ≡ 2
+  words_due : {status : ℕ} {text : List ℕ} → IsDue asked old new status text → asked ≡ AsksUsage → status ≡ 2
   words_due (Usage none nothing) no_form = refl
   words_due (NotBuilt more nothing) no_form = absurd (usage-not-more no_form more)
   words_due (TooLong command asks many) no_form = absurd (usage-not-read command no_form asks)
   words_due (Generated number asks nothing) no_form = absurd (usage-not-job number no_form asks)
   words_due (Said command bytes status text asks all output) no_form = absurd (usage-not-read command no_form asks)
 
-  words_run : {status : ℕ} → HasRun words old new status → AreNoForm words → (status ≡ 2) ⊎ ((status ≡ 7) ⊎ (status ≡ 8))
+  words_run : {status : ℕ} → HasRun asked old new status → asked ≡ AsksUsage → (status ≡ 2) ⊎ ((status ≡ 7) ⊎ (status ≡ 8))
   words_run (Wrote status text due whole) no_form = inl (words_due due no_form)
   words_run (WriteFault status k text due part) no_form = inr (inl refl)
   words_run (ReadFault command asks few rose nothing) no_form = absurd (usage-not-read command no_form asks)
   words_run (NoMemory few same nothing) no_form = inr (inr refl)
 
   -- status 10
-  not_built_due : {status : ℕ} {text : List ℕ} → IsDue words old new status text → status ≡ 10 → AreNotBuilt words × ReadNothing old new × (text ≡ not_built_text)
+  not_built_due : {status : ℕ} {text : List ℕ} → IsDue asked old new status text → status ≡ 10 → (asked ≡ AsksMore) × ReadNothing old new × (text ≡ not_built_text)
   not_built_due (Usage none nothing) e = absurd (omega arith)
   not_built_due (NotBuilt more nothing) e = (more, nothing, refl)
   not_built_due (TooLong command asks many) e = absurd (omega arith)
   not_built_due (Generated number asks nothing) e = absurd (omega arith)
   not_built_due (Said command bytes status text asks all output) e = absurd (other status 10 (output-status output) refl e)
 
-  not_built_run : {status : ℕ} → HasRun words old new status → status ≡ 10 → AreNotBuilt words × ReadNothing old new × WroteAll old new not_built_text
+  not_built_run : {status : ℕ} → HasRun asked old new status → status ≡ 10 → (asked ≡ AsksMore) × ReadNothing old new × WroteAll old new not_built_text
   not_built_run (Wrote status text due whole) e = let cause = not_built_due due e in (cause.0, cause.1, subst (WroteAll old new) cause.2 whole)
   not_built_run (WriteFault status k text due part) e = absurd (omega arith)
   not_built_run (ReadFault command asks few rose nothing) e = absurd (omega arith)
   not_built_run (NoMemory few same nothing) e = absurd (omega arith)
 
   -- words in a form that isn't built
-  more_due : {status : ℕ} {text : List ℕ} → IsDue words old new status text → AreNotBuilt words → status ≡ 10
+  more_due : {status : ℕ} {text : List ℕ} → IsDue asked old new status text → asked ≡ AsksMore → status ≡ 10
   more_due (Usage none nothing) more = absurd (usage-not-more none more)
   more_due (NotBuilt also nothing) more = refl
   more_due (TooLong command asks many) more = absurd (more-not-read command more asks)
   more_due (Generated number asks nothing) more = absurd (more-not-job number more asks)
   more_due (Said command bytes status text asks all output) more = absurd (more-not-read command more asks)
 
-  more_run : {status : ℕ} → HasRun words old new status → AreNotBuilt words → (status ≡ 10) ⊎ ((status ≡ 7) ⊎ (status ≡ 8))
+  more_run : {status : ℕ} → HasRun asked old new status → asked ≡ AsksMore → (status ≡ 10) ⊎ ((status ≡ 7) ⊎ (status ≡ 8))
   more_run (Wrote status text due whole) more = inl (more_due due more)
   more_run (WriteFault status k text due part) more = inr (inl refl)
   more_run (ReadFault command asks few rose nothing) more = absurd (more-not-read command more asks)
   more_run (NoMemory few same nothing) more = inr (inr refl)
 
   -- what is due has no status of its own but 2, 9, 10 and those of bytes
-  due_status : {status : ℕ} {text : List ℕ} → IsDue words old new status text → ((status ≡ 2) ⊎ ((status ≡ 9) ⊎ (status ≡ 10))) ⊎ (is_of_bytes status ≡ true)
+  due_status : {status : ℕ} {text : List ℕ} → IsDue asked old new status text → ((status ≡ 2) ⊎ ((status ≡ 9) ⊎ (status ≡ 10))) ⊎ (is_of_bytes status ≡ true)
   due_status (Usage none nothing) = inl (inl refl)
   due_status (NotBuilt more nothing) = inl (inr (inr refl))
   due_status (TooLong command asks many) = inl (inr (inl refl))
@@ -158,50 +159,50 @@ module _ (words : List (List ℕ)) (old new : Ends) where
   never_due status number (inr h) not_two not_nine not_ten k e = other status number h k e
 
   -- status 6
-  read_fault_run : {status : ℕ} → HasRun words old new status → status ≡ 6 → AskForSome words × ReadNotTooMany old new × Rises old.read_faults new.read_faults × WroteNothing old new
+  read_fault_run : {status : ℕ} → HasRun asked old new status → status ≡ 6 → AsksForSome asked × ReadNotTooMany old new × Rises old.read_faults new.read_faults × WroteNothing old new
   read_fault_run (Wrote status text due whole) e = absurd (never_due status 6 (due_status due) (omega arith) (omega arith) (omega arith) refl e)
   read_fault_run (WriteFault status k text due part) e = absurd (omega arith)
   read_fault_run (ReadFault command asks few rose nothing) e = ((command, asks), few, rose, nothing)
   read_fault_run (NoMemory few same nothing) e = absurd (omega arith)
 
   -- status 7
-  write_fault_run : {status : ℕ} → HasRun words old new status → status ≡ 7 →
-      (due k : ℕ) × (text : List ℕ) × IsDue words old new due text × WrotePart old new text k
+  write_fault_run : {status : ℕ} → HasRun asked old new status → status ≡ 7 →
+      (due k : ℕ) × (text : List ℕ) × IsDue asked old new due text × WrotePart old new text k
   write_fault_run (Wrote status text due whole) e = absurd (never_due status 7 (due_status due) (omega arith) (omega arith) (omega arith) refl e)
   write_fault_run (WriteFault status k text due part) e = (status, k, text, due, part)
   write_fault_run (ReadFault command asks few rose nothing) e = absurd (omega arith)
   write_fault_run (NoMemory few same nothing) e = absurd (omega arith)
 
   -- counts that stay
-  counts_due : {status : ℕ} {text : List ℕ} → IsDue words old new status text → NoReadFailed old new
+  counts_due : {status : ℕ} {text : List ℕ} → IsDue asked old new status text → NoReadFailed old new
   counts_due (Usage none nothing) = nothing.1
   counts_due (NotBuilt more nothing) = nothing.1
   counts_due (TooLong command asks many) = many.1
   counts_due (Generated number asks nothing) = nothing.1
   counts_due (Said command bytes status text asks all output) = all.3
 
-  counts_run : {status : ℕ} → HasRun words old new status → (status ≢ 6 → NoReadFailed old new) × (status ≢ 7 → NoWriteFailed old new)
+  counts_run : {status : ℕ} → HasRun asked old new status → (status ≢ 6 → NoReadFailed old new) × (status ≢ 7 → NoWriteFailed old new)
   counts_run (Wrote status text due whole) = (λ h. counts_due due, λ h. whole.1)
   counts_run (WriteFault status k text due part) = (λ h. counts_due due, λ h. absurd (h refl))
   counts_run (ReadFault command asks few rose nothing) = (λ h. absurd (h refl), λ h. nothing.1)
   counts_run (NoMemory few same nothing) = (λ h. same, λ h. nothing.1)
 
   -- status 8
-  no_memory_run : {status : ℕ} → HasRun words old new status → status ≡ 8 → WroteNothing old new
+  no_memory_run : {status : ℕ} → HasRun asked old new status → status ≡ 8 → WroteNothing old new
   no_memory_run (Wrote status text due whole) e = absurd (never_due status 8 (due_status due) (omega arith) (omega arith) (omega arith) refl e)
   no_memory_run (WriteFault status k text due part) e = absurd (omega arith)
   no_memory_run (ReadFault command asks few rose nothing) e = absurd (omega arith)
   no_memory_run (NoMemory few same nothing) e = nothing
 
   -- status 9
-  too_long_due : {status : ℕ} {text : List ℕ} → IsDue words old new status text → status ≡ 9 → AskForSome words × ReadTooMany old new × (text ≡ too_long_text)
+  too_long_due : {status : ℕ} {text : List ℕ} → IsDue asked old new status text → status ≡ 9 → AsksForSome asked × ReadTooMany old new × (text ≡ too_long_text)
   too_long_due (Usage none nothing) e = absurd (omega arith)
   too_long_due (NotBuilt more nothing) e = absurd (omega arith)
   too_long_due (TooLong command asks many) e = ((command, asks), many, refl)
   too_long_due (Generated number asks nothing) e = absurd (omega arith)
   too_long_due (Said command bytes status text asks all output) e = absurd (other status 9 (output-status output) refl e)
 
-  too_long_run : {status : ℕ} → HasRun words old new status → status ≡ 9 → AskForSome words × ReadTooMany old new × WroteAll old new too_long_text
+  too_long_run : {status : ℕ} → HasRun asked old new status → status ≡ 9 → AsksForSome asked × ReadTooMany old new × WroteAll old new too_long_text
   too_long_run (Wrote status text due whole) e = let cause = too_long_due due e in (cause.0, cause.1, subst (WroteAll old new) cause.2 whole)
   too_long_run (WriteFault status k text due part) e = absurd (omega arith)
   too_long_run (ReadFault command asks few rose nothing) e = absurd (omega arith)
@@ -215,7 +216,7 @@ module _ (words : List (List ℕ)) (old new : Ends) where
         let none : length taken.0.0 ≡ length {A = ℕ} [] = one_length bytes taken.0.0 [] (Some bytes) took refl in
         let size : length taken.0.0 ≡ most_bytes + 1 = taken.0.1.1 in omega arith
 
-    many_due : {status : ℕ} {text : List ℕ} → IsDue words old new status text → ReadTooMany old new → (status ≡ 9) ⊎ ((status ≡ 7) ⊎ (status ≡ 8))
+    many_due : {status : ℕ} {text : List ℕ} → IsDue asked old new status text → ReadTooMany old new → (status ≡ 9) ⊎ ((status ≡ 7) ⊎ (status ≡ 8))
     many_due (Usage none nothing) many = absurd (untouched nothing many)
     many_due (NotBuilt more nothing) many = absurd (untouched nothing many)
     many_due (TooLong command asks also) many = inl refl
@@ -225,7 +226,7 @@ module _ (words : List (List ℕ)) (old new : Ends) where
         let few : length taken ≤ most_bytes = all.0 in
         let size : length many.0.0 ≡ most_bytes + 1 = many.0.1.1 in absurd (omega arith)
 
-    many_run : {status : ℕ} → HasRun words old new status → ReadTooMany old new → (status ≡ 9) ⊎ ((status ≡ 7) ⊎ (status ≡ 8))
+    many_run : {status : ℕ} → HasRun asked old new status → ReadTooMany old new → (status ≡ 9) ⊎ ((status ≡ 7) ⊎ (status ≡ 8))
     many_run (Wrote status text due whole) many = many_due due many
     many_run (WriteFault status k text due part) many = inr (inl refl)
     many_run (ReadFault command asks few rose nothing) many =
@@ -235,8 +236,8 @@ module _ (words : List (List ℕ)) (old new : Ends) where
     many_run (NoMemory few same nothing) many = inr (inr refl)
 
     -- and one that has too many
-    module _ (many : most_bytes < length bytes) (asks : AskForSome words) where
-      more_than_all : {status : ℕ} {text : List ℕ} → IsDue words old new status text → (status ≡ 9) × (text ≡ too_long_text)
+    module _ (many : most_bytes < length bytes) (asks : AsksForSome asked) where
+      more_than_all : {status : ℕ} {text : List ℕ} → IsDue asked old new status text → (status ≡ 9) × (text ≡ too_long_text)
       more_than_all (Usage none nothing) = absurd (usage-not-read asks.0 none asks.1)
       more_than_all (NotBuilt more nothing) = absurd (more-not-read asks.0 more asks.1)
       more_than_all (TooLong command also taken) = (refl, refl)
@@ -246,7 +247,7 @@ module _ (words : List (List ℕ)) (old new : Ends) where
           let size : length taken ≡ length bytes = ap length same in
           let few : length taken ≤ most_bytes = all.0 in absurd (omega arith)
 
-      many_completes : {status : ℕ} → HasRun words old new status → ¬ Rises old.read_faults new.read_faults → ¬ Rises old.write_faults new.write_faults →
+      many_completes : {status : ℕ} → HasRun asked old new status → ¬ Rises old.read_faults new.read_faults → ¬ Rises old.write_faults new.write_faults →
           (status ≡ 8) ⊎ ((status ≡ 9) × WroteAll old new too_long_text)
       many_completes (Wrote status text due whole) no_read no_write = let is = more_than_all due in inr (is.0, subst (WroteAll old new) is.1 whole)
       many_completes (WriteFault status k text due part) no_read no_write = absurd (no_write part.2)
@@ -254,7 +255,7 @@ module _ (words : List (List ℕ)) (old new : Ends) where
       many_completes (NoMemory few same nothing) no_read no_write = inl refl
 
   -- a generated job
-  job_due : (number : ℕ) {status : ℕ} {text : List ℕ} → IsDue words old new status text → AskForJob words number →
+  job_due : (number : ℕ) {status : ℕ} {text : List ℕ} → IsDue asked old new status text → asked ≡ AsksJob number →
       (status ≡ 0) × ReadNothing old new × (text ≡ generated_text number)
   job_due number (Usage none nothing) asks = absurd (usage-not-job number none asks)
   job_due number (NotBuilt more nothing) asks = absurd (more-not-job number more asks)
@@ -266,7 +267,7 @@ module _ (words : List (List ℕ)) (old new : Ends) where
   abbrev JobEnds : ℕ → ℕ → Type 0
   JobEnds number status = ((status ≡ 0) × WroteJob old new number) ⊎ (((status ≡ 7) × Rises old.write_faults new.write_faults) ⊎ (status ≡ 8))
 
-  job_run : (number : ℕ) {status : ℕ} → HasRun words old new status → AskForJob words number → JobEnds number status
+  job_run : (number : ℕ) {status : ℕ} → HasRun asked old new status → asked ≡ AsksJob number → JobEnds number status
   job_run number (Wrote status text due whole) asks = let is = job_due number due asks in inl (is.0, (is.1, subst (WroteAll old new) is.2 whole))
   job_run number (WriteFault status k text due part) asks = inr (inl (refl, part.2))
   job_run number (ReadFault command also few rose nothing) asks = absurd (read-not-job command number also asks)
@@ -286,17 +287,17 @@ module _ (words : List (List ℕ)) (old new : Ends) where
 
   -- the statuses of bytes
   abbrev WholeJob : ℕ → Type 0
-  WholeJob status = (number : ℕ) × (status ≡ 0) × AskForJob words number × WroteJob old new number
+  WholeJob status = (number : ℕ) × (status ≡ 0) × (asked ≡ AsksJob number) × WroteJob old new number
 
-  all_read_due : {status : ℕ} {text : List ℕ} → IsDue words old new status text → is_of_bytes status ≡ true → WroteAll old new text →
-      HasAnsweredAll words old new status ⊎ WholeJob status
+  all_read_due : {status : ℕ} {text : List ℕ} → IsDue asked old new status text → is_of_bytes status ≡ true → WroteAll old new text →
+      HasAnsweredAll asked old new status ⊎ WholeJob status
   all_read_due (Usage none nothing) h whole = absurd (cc)
   all_read_due (NotBuilt more nothing) h whole = absurd (cc)
   all_read_due (TooLong command asks many) h whole = absurd (cc)
   all_read_due (Generated number asks nothing) h whole = inr (number, refl, asks, (nothing, whole))
   all_read_due (Said command bytes status text asks all output) h whole = inl (command, bytes, text, asks, all, output, whole)
 
-  all_read_run : {status : ℕ} → HasRun words old new status → is_of_bytes status ≡ true → HasAnsweredAll words old new status ⊎ WholeJob status
+  all_read_run : {status : ℕ} → HasRun asked old new status → is_of_bytes status ≡ true → HasAnsweredAll asked old new status ⊎ WholeJob status
   all_read_run (Wrote status text due whole) h = all_read_due due h whole
   all_read_run (WriteFault status k text due part) h = absurd (cc)
   all_read_run (ReadFault command asks few rose nothing) h = absurd (cc)
@@ -310,15 +311,15 @@ module _ (words : List (List ℕ)) (old new : Ends) where
   known_due status (inl (inr (inr ten))) = rw ten refl
   known_due status (inr h) = or_left (is_of_bytes status) (list_any (λ s. s == status) (2 ∷ 6 ∷ 7 ∷ 8 ∷ 9 ∷ 10 ∷ [])) h
 
-  known_run : {status : ℕ} → HasRun words old new status → (is_of_bytes status || list_any (λ s. s == status) (2 ∷ 6 ∷ 7 ∷ 8 ∷ 9 ∷ 10 ∷ [])) ≡ true
+  known_run : {status : ℕ} → HasRun asked old new status → (is_of_bytes status || list_any (λ s. s == status) (2 ∷ 6 ∷ 7 ∷ 8 ∷ 9 ∷ 10 ∷ [])) ≡ true
   known_run (Wrote status text due whole) = known_due status (due_status due)
   known_run (WriteFault status k text due part) = refl
   known_run (ReadFault command asks few rose nothing) = refl
   known_run (NoMemory few same nothing) = refl
 
   -- a run over a source that tells its bytes
-  module _ (command : Command) (bytes : List ℕ) (asks : AskFor words command) (told : old.left ≡ Some bytes) (few : length bytes ≤ most_bytes) where
-    completes_due : {status : ℕ} {text : List ℕ} → IsDue words old new status text → IsOutput command bytes status text
+  module _ (command : Command) (bytes : List ℕ) (asks : asked ≡ Asks command) (told : old.left ≡ Some bytes) (few : length bytes ≤ most_bytes) where
+    completes_due : {status : ℕ} {text : List ℕ} → IsDue asked old new status text → IsOutput command bytes status text
     completes_due (Usage none nothing) = absurd (usage-not-read command none asks)
     completes_due (NotBuilt more nothing) = absurd (more-not-read command more asks)
     completes_due (TooLong also same many) =
@@ -330,7 +331,7 @@ module _ (words : List (List ℕ)) (old new : Ends) where
         let one : also ≡ command = one-command also command too asks in
         subst (λ c. IsOutput c bytes status text) one (subst (λ bs. IsOutput also bs status text) same output)
 
-    completes_run : {status : ℕ} → HasRun words old new status → ¬ Rises old.read_faults new.read_faults → ¬ Rises old.write_faults new.write_faults →
+    completes_run : {status : ℕ} → HasRun asked old new status → ¬ Rises old.read_faults new.read_faults → ¬ Rises old.write_faults new.write_faults →
         (status ≡ 8) ⊎ ((text : List ℕ) × IsOutput command bytes status text × WroteAll old new text)
     completes_run (Wrote status text due whole) no_read no_write = inr (text, completes_due due, whole)
     completes_run (WriteFault status k text due part) no_read no_write = absurd (no_write part.2)
@@ -338,49 +339,49 @@ module _ (words : List (List ℕ)) (old new : Ends) where
     completes_run (NoMemory few same nothing) no_read no_write = inl refl
 
 pub usage : UsageIsOfTheWords
-usage words old new run = usage_run words old new run refl
+usage asked old new run = usage_run asked old new run refl
 
 pub words_decide : WordsDecideTheUsage
-words_decide words old new status run no_form = words_run words old new run no_form
+words_decide asked old new status run no_form = words_run asked old new run no_form
 
 pub not_built : NotBuiltIsOfTheWords
-not_built words old new run = not_built_run words old new run refl
+not_built asked old new run = not_built_run asked old new run refl
 
 pub words_decide_not_built : WordsDecideNotBuilt
-words_decide_not_built words old new status run more = more_run words old new run more
+words_decide_not_built asked old new status run more = more_run asked old new run more
 
 pub words_decide_job : WordsDecideTheJob
-words_decide_job words old new status number run asks = job_decides words old new number (job_run words old new number run asks)
+words_decide_job asked old new status number run asks = job_decides asked old new number (job_run asked old new number run asks)
 
 pub job_completes : JobCompletes
-job_completes words old new status number run asks no_write = job_completed words old new number (job_run words old new number run asks) no_write
+job_completes asked old new status number run asks no_write = job_completed asked old new number (job_run asked old new number run asks) no_write
 
 pub read_fault : ReadFaultIsOfTheSource
-read_fault words old new run = read_fault_run words old new run refl
+read_fault asked old new run = read_fault_run asked old new run refl
 
 pub write_fault : WriteFaultIsOfTheSink
-write_fault words old new run = write_fault_run words old new run refl
+write_fault asked old new run = write_fault_run asked old new run refl
 
 pub counts : CountsStay
-counts words old new status run = counts_run words old new run
+counts asked old new status run = counts_run asked old new run
 
 pub too_long : TooLongIsOfTheBytes
-too_long words old new run = too_long_run words old new run refl
+too_long asked old new run = too_long_run asked old new run refl
 
 pub too_many_decide : TooManyDecide
-too_many_decide words old new status bytes run told many = many_run words old new bytes told run many
+too_many_decide asked old new status bytes run told many = many_run asked old new bytes told run many
 
 pub too_many_complete : TooManyComplete
-too_many_complete words old new status bytes run asks told many no_read no_write = many_completes words old new bytes told many asks run no_read no_write
+too_many_complete asked old new status bytes run asks told many no_read no_write = many_completes asked old new bytes told many asks run no_read no_write
 
 pub no_memory : NoMemoryWritesNothing
-no_memory words old new run = no_memory_run words old new run refl
+no_memory asked old new run = no_memory_run asked old new run refl
 
 pub all_read : AnswerIsOfAllBytes
-all_read words old new status run h = all_read_run words old new run h
+all_read asked old new status run h = all_read_run asked old new run h
 
 pub known : StatusesAreKnown
-known words old new status run = known_run words old new run
+known asked old new status run = known_run asked old new run
 
 pub completes : RunCompletes
-completes words old new status command bytes run asks told few no_read no_write = completes_run words old new command bytes asks told few run no_read no_write
+completes asked old new status command bytes run asks told few no_read no_write = completes_run asked old new command bytes asks told few run no_read no_write

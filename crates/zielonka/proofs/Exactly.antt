@@ -8,7 +8,7 @@ use Rattle.za_lang.specs.Documents.{fault_of, job_of}
 use Rattle.za_script.specs.declared.answer.Answer.{Answer}
 use Rattle.za_script.specs.declared.answer.Answer.TheVariants.{Accept, Reject, Stuck}
 use Rattle.zielonka.specs.declared.request.Command.{Command}
-use Rattle.zielonka.specs.Output.{IsAnswered, Ran, Checked, Told, IsDueFor, Open, Answered, Refused, Read, given, status_of}
+use Rattle.zielonka.specs.Output.{IsAnswered, Ran, RanOnThreads, Checked, Told, IsDueFor, Open, Answered, Refused, Read, given, status_of}
 use Rattle.zielonka.specs.Laws.{RefusedExactly, HasBrokenLanguage, OpenExactly}
 use Rattle.zielonka.proofs.OneOutput.{not-read}
 
@@ -19,9 +19,10 @@ answer-low Reject = omega arith
 answer-low Stuck = omega arith
 
 answered-low : {job : JobData} {command : Command} {status : ℕ} {text : List ℕ} → IsAnswered job command status text → status ≤ 3
-answered-low (Ran answer right) = answer-low answer
-answered-low (Checked d minimal) = omega arith
-answered-low (Told d minimal) = omega arith
+answered-low (Ran cache answer right) = answer-low answer
+answered-low (RanOnThreads cache status text answered) = answered-low answered
+answered-low (Checked cache d minimal) = omega arith
+answered-low (Told cache d minimal) = omega arith
 
 due-not-four : {job : JobData} {command : Command} {status : ℕ} {text : List ℕ} → IsDueFor command job status text → status ≡ 4 → ⊥
 due-not-four (Open k least) e = omega arith

@@ -1,8 +1,10 @@
-pub mod AnswerLemmas
+pub mod RequestLemmas
 pub mod DueLemmas
+pub mod JudgedLemmas
 pub mod RunLemmas
 pub mod Causes
 pub mod OneOutput
 pub mod SomeOutput
 pub mod Exactly
-pub mod Entries
+pub mod ShownLemmas
+pub mod Headlines

@@ -18,9 +18,10 @@ use Rattle.za_script.specs.declared.answer.Answer.TheVariants.{Accept, Reject, S
 use Rattle.za_script.specs.Answer.{IsAnswer}
 use Rattle.za_report.specs.Texts.{answer_text, check_text, open_text, refused_text}
 use Rattle.zielonka.specs.declared.request.Command.{Command}
-use Rattle.zielonka.specs.LocalStates.{locals_text}
-use Rattle.zielonka.specs.Output.{IsAnswered, Ran, Checked, Told, IsDueFor, Open, Answered, Refused, Read, given, woven_of, status_of}
-use Rattle.zielonka.specs.Laws.{OutputIsOne}
+use Rattle.zielonka.specs.declared.request.Command.TheVariants.{Solo, Run}
+use Rattle.za_report.specs.LocalStates.{locals_text}
+use Rattle.zielonka.specs.Output.{IsAnswered, Ran, RanOnThreads, Checked, Told, IsDueFor, Open, Answered, IsOutput, Refused, Read, given, woven_of, status_of}
+use Rattle.zielonka.specs.Laws.{OutputIsOne, ThreadsAnswerAsOne}
 
 -- one status and one text
 abbrev IsOne : (s t : ℕ) (x y : List ℕ) → Type 0
@@ -36,7 +37,7 @@ minimal-one d e other m n =
     (λ w h. m.language w h ∙ sym (n.language w (subst (λ (a : DistributedAlphabet). IsWord (length a.letters) w) same h))))
 
 -- of two answers to scripts
-answer-one : (loc : ℕ → List ℕ) (d : Automaton) (scripts : ℕ → List ℕ) (a b : Answer) → IsAnswer loc d scripts a → IsAnswer loc d scripts b → a ≡ b
+pub answer-one : (loc : ℕ → List ℕ) (d : Automaton) (scripts : ℕ → List ℕ) (a b : Answer) → IsAnswer loc d scripts a → IsAnswer loc d scripts b → a ≡ b
 answer-one loc d scripts Accept Accept g h = refl
 answer-one loc d scripts Accept Reject g h = let f = h.1 g.0 g.1 in let t = g.2 in let both : true ≡ false = sym t ∙ f in cc
 answer-one loc d scripts Accept Stuck g h = absurd (h g.0 g.1)
@@ -49,16 +50,17 @@ answer-one loc d scripts Stuck Stuck g h = refl
 
 -- what is due for a job by its number of states, by the automaton, by the answer
 answered-one : (job : JobData) (command : Command) (s t : ℕ) (x y : List ℕ) → IsAnswered job command s x → IsAnswered job command t y → IsOne s t x y
-answered-one job command s t x y (Ran a right) (Ran b also) =
+answered-one job command s t x y (Ran cache a right) (Ran same b also) =
     let one = answer-one (loc_of job.lang.alphabet) (automaton_of (given job)) _ a b right also in
-    (ap status_of one, ap (λ k. answer_text job.lang.alphabet job.scripts (woven_of job) k 0) one)
-answered-one job command s t x y (Checked d m) (Checked e n) =
-    (refl, ap (λ (k : CompleteDfa). check_text job.lang.alphabet k.states 0) (minimal-one d e (given job) m n))
-answered-one job command s t x y (Told d m) (Told e n) =
+    (ap status_of one, ap (λ k. answer_text job.naming.names job.lang.alphabet job.scripts (woven_of job) k cache) one)
+answered-one job command s t x y (RanOnThreads cache status text one) (RanOnThreads same other said two) = answered-one job (Solo cache) status other text said one two
+answered-one job command s t x y (Checked cache d m) (Checked same e n) =
+    (refl, ap (λ (k : CompleteDfa). check_text job.lang.alphabet k.states cache) (minimal-one d e (given job) m n))
+answered-one job command s t x y (Told cache d m) (Told same e n) =
     (refl, ap (λ (k : CompleteDfa). locals_text k (woven_of job)) (minimal-one d e (given job) m n))
 
 -- a language with a break isn't closed
-not-both : (job : JobData) → IsJob job → (k : Break) → IsLeastBreak (loc_of job.lang.alphabet) (automaton_of (given job)) k →
+pub not-both : (job : JobData) → IsJob job → (k : Break) → IsLeastBreak (loc_of job.lang.alphabet) (automaton_of (given job)) k →
     IsTraceClosed (loc_of job.lang.alphabet) (automaton_of (given job)) → ⊥
 not-both job fine k least closed =
     (closed_is_unbroken (loc_of job.lang.alphabet) job.lang.alphabet.processes (automaton_of (given job)) fine.lang.distributed.located).0 closed k least.is
@@ -83,3 +85,26 @@ output_is_one command bytes s t x y (Refused fault wrong) (Read status text righ
 output_is_one command bytes s t x y (Read status text right fine due) (Refused fault wrong) = absurd (not-read bytes fault wrong right)
 output_is_one command bytes s t x y (Read status text right fine due) (Read other said also too more) =
     due-one (job_of bytes) command status other text said fine due more
+
+-- what threads answer to a job is what one thread answers
+answered-to : (job : JobData) (cache status : ℕ) (text : List ℕ) → IsAnswered job (Run cache) status text → IsAnswered job (Solo cache) status text
+answered-to job cache status text (RanOnThreads same s t answered) = answered
+
+due-to : (job : JobData) (cache status : ℕ) (text : List ℕ) → IsDueFor (Run cache) job status text → IsDueFor (Solo cache) job status text
+due-to job cache status text (Open k least) = Open k least
+due-to job cache status text (Answered s t closed answered) = Answered s t closed (answered-to job cache s t answered)
+
+due-back : (job : JobData) (cache status : ℕ) (text : List ℕ) → IsDueFor (Solo cache) job status text → IsDueFor (Run cache) job status text
+due-back job cache status text (Open k least) = Open k least
+due-back job cache status text (Answered s t closed answered) = Answered s t closed (RanOnThreads cache s t answered)
+
+output-to : (cache : ℕ) (bytes : List ℕ) (status : ℕ) (text : List ℕ) → IsOutput (Run cache) bytes status text → IsOutput (Solo cache) bytes status text
+output-to cache bytes status text (Refused fault wrong) = Refused fault wrong
+output-to cache bytes status text (Read s t right fine due) = Read s t right fine (due-to (job_of bytes) cache s t due)
+
+output-back : (cache : ℕ) (bytes : List ℕ) (status : ℕ) (text : List ℕ) → IsOutput (Solo cache) bytes status text → IsOutput (Run cache) bytes status text
+output-back cache bytes status text (Refused fault wrong) = Refused fault wrong
+output-back cache bytes status text (Read s t right fine due) = Read s t right fine (due-back (job_of bytes) cache s t due)
+
+pub threads_answer_as_one : ThreadsAnswerAsOne
+threads_answer_as_one cache bytes status text = (output-to cache bytes status text, output-back cache bytes status text)

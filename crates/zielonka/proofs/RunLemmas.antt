@@ -4,23 +4,28 @@ use Rattle.za_base.specs.Read.{Took}
 use Rattle.za_base.specs.Ends.{Ends}
 use Rattle.za_gen.specs.Generated.{generated_text}
 use Rattle.zielonka.specs.Limits.{most_bytes}
-use Rattle.zielonka.specs.Run.{AskForJob, ReadNothing, IsDue, Generated, HasRun, Wrote, WriteFault}
-use Rattle.zielonka.specs.Private.Saying.{HasSaid, Whole, Part}
+use Rattle.zielonka.specs.declared.request.Request.{Request}
+use Rattle.zielonka.specs.declared.request.Request.TheVariants.{Generate as AsksJob}
+use Rattle.zielonka.specs.Run.{ReadNothing, HasSaid, Whole, Part, IsDue, Generated, HasRun, Wrote, WriteFault}
 
-pub said-run : (words : List (List ℕ)) (old new : Ends) (status : ℕ) (text : List ℕ) {s : ℕ} → IsDue words old new status text →
-    HasSaid status text old.written new.written old.write_faults new.write_faults s → HasRun words old new s
-said-run words old new status text due (Whole whole same) = Wrote status text due (whole, same)
-said-run words old new status text due (Part k short part rose) = WriteFault status k text due (short, part, rose)
+pub said-run : (asked : Request) (old new : Ends) (status : ℕ) (text : List ℕ) {s : ℕ} → IsDue asked old new status text →
+    HasSaid status text old.written new.written old.write_faults new.write_faults s → HasRun asked old new s
+said-run asked old new status text due (Whole whole same) = Wrote status text due (whole, same)
+said-run asked old new status text due (Part k short part rose) = WriteFault status k text due (short, part, rose)
 
 -- what was said is a generated job
-pub said-job : (words : List (List ℕ)) (old new : Ends) (number : ℕ) (text : List ℕ) {s : ℕ} → AskForJob words number → ReadNothing old new →
+pub said-job : (asked : Request) (old new : Ends) (number : ℕ) (text : List ℕ) {s : ℕ} → asked ≡ AsksJob number → ReadNothing old new →
     text ≡ generated_text number →
-    HasSaid 0 text old.written new.written old.write_faults new.write_faults s → HasRun words old new s
-said-job words old new number text {s = s} asks nothing is said =
-    said-run words old new 0 (generated_text number) (Generated number asks nothing)
+    HasSaid 0 text old.written new.written old.write_faults new.write_faults s → HasRun asked old new s
+said-job asked old new number text {s = s} asks nothing is said =
+    said-run asked old new 0 (generated_text number) (Generated number asks nothing)
     (subst (λ (t : List ℕ). HasSaid 0 t old.written new.written old.write_faults new.write_faults s) is said)
 
 -- a source that wasn't read has given no byte
 pub took-nothing : (left : Option (List ℕ)) → Took left left (λ n. n ≤ most_bytes)
 took-nothing None = ([], (tt, omega arith))
 took-nothing (Some bytes) = ([], (refl, omega arith))
+
+-- what was done is told of what is asked alone
+pub run-moves : (asked other : Request) (old new : Ends) (status : ℕ) → asked ≡ other → HasRun asked old new status → HasRun other old new status
+run-moves asked other old new status e h = subst (λ a. HasRun a old new status) e h

@@ -24,9 +24,9 @@ use Rattle.za_script.proofs.Confluence.{weave_is_maximal}
 use Rattle.za_script.proofs.Answers.{accept_is_of_the_weave, reject_is_of_the_weave, stuck_is_of_the_weave}
 use Rattle.za_report.specs.Texts.{answer_text, check_text, open_text, refused_text}
 use Rattle.zielonka.specs.declared.request.Command.{Command}
-use Rattle.zielonka.specs.declared.request.Command.TheVariants.{Solo, Check, Locals}
-use Rattle.zielonka.specs.LocalStates.{locals_text}
-use Rattle.zielonka.specs.Output.{IsAnswered, Ran, Checked, Told, IsOutput, Open, Answered, Refused, Read, given, woven_of, status_of}
+use Rattle.zielonka.specs.declared.request.Command.TheVariants.{Solo, Run, Check, Locals}
+use Rattle.za_report.specs.LocalStates.{locals_text}
+use Rattle.zielonka.specs.Output.{IsAnswered, Ran, RanOnThreads, Checked, Told, IsOutput, Open, Answered, Refused, Read, given, woven_of, status_of}
 use Rattle.zielonka.specs.Laws.{SomethingIsDue}
 
 module _ (job : JobData) (fine : IsJob job) where
@@ -71,12 +71,15 @@ module _ (job : JobData) (fine : IsJob job) where
 
   -- and each command is answered
   answered_exists : IsTraceClosed loc (automaton_of (given job)) → (command : Command) → (status : ℕ) × (text : List ℕ) × IsAnswered job command status text
-  answered_exists closed Solo =
-      let a = answer_exists closed in (status_of a.0, answer_text job.lang.alphabet job.scripts (woven_of job) a.0 0, Ran a.0 a.1)
-  answered_exists closed Check =
-      let d = minimal_dfas_exist (given job) (completion_complete job.lang fine.lang) in (0, check_text job.lang.alphabet d.0.states 0, Checked d.0 d.1)
-  answered_exists closed Locals =
-      let d = minimal_dfas_exist (given job) (completion_complete job.lang fine.lang) in (0, locals_text d.0 (woven_of job), Told d.0 d.1)
+  answered_exists closed (Solo cache) =
+      let a = answer_exists closed in (status_of a.0, answer_text job.naming.names job.lang.alphabet job.scripts (woven_of job) a.0 cache, Ran cache a.0 a.1)
+  answered_exists closed (Run cache) =
+      let a = answer_exists closed in
+      let text : List ℕ = answer_text job.naming.names job.lang.alphabet job.scripts (woven_of job) a.0 cache in (status_of a.0, text, RanOnThreads cache (status_of a.0) text (Ran cache a.0 a.1))
+  answered_exists closed (Check cache) =
+      let d = minimal_dfas_exist (given job) (completion_complete job.lang fine.lang) in (0, check_text job.lang.alphabet d.0.states cache, Checked cache d.0 d.1)
+  answered_exists closed (Locals cache) =
+      let d = minimal_dfas_exist (given job) (completion_complete job.lang fine.lang) in (0, locals_text d.0 (woven_of job), Told cache d.0 d.1)
 
 -- a text is refused or is a job, and the language of a job is closed or has a least break
 by_fault : (command : Command) (bytes : List ℕ) (o : Option TextFault) → fault_of bytes ≡ o → (status : ℕ) × (text : List ℕ) × IsOutput command bytes status text

@@ -12,9 +12,13 @@ use Rattle.za_lang.specs.Jobs.{IsJob}
 use Rattle.za_lang.specs.Documents.{fault_of, job_of}
 use Rattle.za_gen.specs.Generated.{generated_text}
 use Rattle.zielonka.specs.declared.request.Command.{Command}
+use Rattle.zielonka.specs.declared.request.Command.TheVariants.{Solo, Run}
+use Rattle.zielonka.specs.declared.request.Request.{Request}
+use Rattle.zielonka.specs.declared.request.Request.TheVariants.{Usage as AsksUsage, NotBuilt as AsksMore}
+use Rattle.zielonka.specs.declared.request.Request.TheVariants.{Answer as Asks, Generate as AsksJob}
 use Rattle.zielonka.specs.Limits.{most_bytes}
 use Rattle.zielonka.specs.Output.{IsOutput, given, usage_text, too_long_text, not_built_text}
-use Rattle.zielonka.specs.Run.{AreNoForm, AreNotBuilt, AskFor, AskForJob, NoReadFailed, NoWriteFailed}
+use Rattle.zielonka.specs.Run.{NoReadFailed, NoWriteFailed}
 use Rattle.zielonka.specs.Run.{ReadNothing, ReadAll, ReadNotTooMany, ReadTooMany, WroteNothing, WroteAll, WrotePart}
 use Rattle.zielonka.specs.Run.{IsDue, HasRun}
 
@@ -23,25 +27,25 @@ use Rattle.zielonka.specs.Run.{IsDue, HasRun}
 -- status 2 comes only of words in no form: nothing was read, and the usage text was written whole
 abbrev pub UsageIsOfTheWords : Type 0
 UsageIsOfTheWords =
-    (words : List (List ℕ)) (old new : Ends) → HasRun words old new 2 →
-    AreNoForm words × ReadNothing old new × WroteAll old new usage_text
+    (asked : Request) (old new : Ends) → HasRun asked old new 2 →
+    (asked ≡ AsksUsage) × ReadNothing old new × WroteAll old new usage_text
 
 -- words in no form have no status but 2, 7 and 8
 abbrev pub WordsDecideTheUsage : Type 0
 WordsDecideTheUsage =
-    (words : List (List ℕ)) (old new : Ends) (status : ℕ) → HasRun words old new status → AreNoForm words →
+    (asked : Request) (old new : Ends) (status : ℕ) → HasRun asked old new status → asked ≡ AsksUsage →
     (status ≡ 2) ⊎ ((status ≡ 7) ⊎ (status ≡ 8))
 
 -- status 10 comes only of words in a form that isn't built: nothing was read, and its line was written whole
 abbrev pub NotBuiltIsOfTheWords : Type 0
 NotBuiltIsOfTheWords =
-    (words : List (List ℕ)) (old new : Ends) → HasRun words old new 10 →
-    AreNotBuilt words × ReadNothing old new × WroteAll old new not_built_text
+    (asked : Request) (old new : Ends) → HasRun asked old new 10 →
+    (asked ≡ AsksMore) × ReadNothing old new × WroteAll old new not_built_text
 
 -- and such words have no status but 10, 7 and 8
 abbrev pub WordsDecideNotBuilt : Type 0
 WordsDecideNotBuilt =
-    (words : List (List ℕ)) (old new : Ends) (status : ℕ) → HasRun words old new status → AreNotBuilt words →
+    (asked : Request) (old new : Ends) (status : ℕ) → HasRun asked old new status → asked ≡ AsksMore →
     (status ≡ 10) ⊎ ((status ≡ 7) ⊎ (status ≡ 8))
 
 -- the generated job was written whole, and nothing was read
@@ -51,92 +55,92 @@ WroteJob old new number = ReadNothing old new × WroteAll old new (generated_tex
 -- words that ask for a generated job have no status but 0, where it was written whole with nothing read, 7 and 8
 abbrev pub WordsDecideTheJob : Type 0
 WordsDecideTheJob =
-    (words : List (List ℕ)) (old new : Ends) (status number : ℕ) → HasRun words old new status →
-    AskForJob words number → ((status ≡ 0) × WroteJob old new number) ⊎ ((status ≡ 7) ⊎ (status ≡ 8))
+    (asked : Request) (old new : Ends) (status number : ℕ) → HasRun asked old new status →
+    asked ≡ AsksJob number → ((status ≡ 0) × WroteJob old new number) ⊎ ((status ≡ 7) ⊎ (status ≡ 8))
 
 -- and where the sink's count of faults didn't rise, it is 0 or 8
 abbrev pub JobCompletes : Type 0
 JobCompletes =
-    (words : List (List ℕ)) (old new : Ends) (status number : ℕ) → HasRun words old new status →
-    AskForJob words number → ¬ Rises old.write_faults new.write_faults →
+    (asked : Request) (old new : Ends) (status number : ℕ) → HasRun asked old new status →
+    asked ≡ AsksJob number → ¬ Rises old.write_faults new.write_faults →
     (status ≡ 8) ⊎ ((status ≡ 0) × WroteJob old new number)
 
 -- the words ask for some command that reads the source
-abbrev pub AskForSome : List (List ℕ) → Type 0
-AskForSome words = (command : Command) × AskFor words command
+abbrev pub AsksForSome : Request → Type 0
+AsksForSome asked = (command : Command) × (asked ≡ Asks command)
 
 -- status 6 comes only where the source's count of faults rose before too many bytes were taken; nothing was written
 abbrev pub ReadFaultIsOfTheSource : Type 0
 ReadFaultIsOfTheSource =
-    (words : List (List ℕ)) (old new : Ends) → HasRun words old new 6 →
-    AskForSome words × ReadNotTooMany old new × Rises old.read_faults new.read_faults × WroteNothing old new
+    (asked : Request) (old new : Ends) → HasRun asked old new 6 →
+    AsksForSome asked × ReadNotTooMany old new × Rises old.read_faults new.read_faults × WroteNothing old new
 
 -- status 7 comes only where the sink's count of faults rose, and a proper prefix of a text that is due was written
 abbrev pub WriteFaultIsOfTheSink : Type 0
 WriteFaultIsOfTheSink =
-    (words : List (List ℕ)) (old new : Ends) → HasRun words old new 7 →
-    (status k : ℕ) × (text : List ℕ) × IsDue words old new status text × WrotePart old new text k
+    (asked : Request) (old new : Ends) → HasRun asked old new 7 →
+    (status k : ℕ) × (text : List ℕ) × IsDue asked old new status text × WrotePart old new text k
 
 -- with any status but 6 the source's count of faults is what it was, and with any but 7 the sink's is
 abbrev pub CountsStay : Type 0
 CountsStay =
-    (words : List (List ℕ)) (old new : Ends) (status : ℕ) → HasRun words old new status →
+    (asked : Request) (old new : Ends) (status : ℕ) → HasRun asked old new status →
     (status ≢ 6 → NoReadFailed old new) × (status ≢ 7 → NoWriteFailed old new)
 
 -- status 9 comes only where one byte more than the limit was taken, and the refusal was written whole
 abbrev pub TooLongIsOfTheBytes : Type 0
 TooLongIsOfTheBytes =
-    (words : List (List ℕ)) (old new : Ends) → HasRun words old new 9 →
-    AskForSome words × ReadTooMany old new × WroteAll old new too_long_text
+    (asked : Request) (old new : Ends) → HasRun asked old new 9 →
+    AsksForSome asked × ReadTooMany old new × WroteAll old new too_long_text
 
 -- where the source tells its bytes and too many were taken, the status is 9, 7 or 8
 abbrev pub TooManyDecide : Type 0
 TooManyDecide =
-    (words : List (List ℕ)) (old new : Ends) (status : ℕ) (bytes : List ℕ) → HasRun words old new status →
+    (asked : Request) (old new : Ends) (status : ℕ) (bytes : List ℕ) → HasRun asked old new status →
     old.left ≡ Some bytes → ReadTooMany old new → (status ≡ 9) ⊎ ((status ≡ 7) ⊎ (status ≡ 8))
 
 -- where it has too many, and neither count of faults rose, a command that reads them ends with want of memory or
 -- refuses them
 abbrev pub TooManyComplete : Type 0
 TooManyComplete =
-    (words : List (List ℕ)) (old new : Ends) (status : ℕ) (bytes : List ℕ) → HasRun words old new status →
-    AskForSome words → old.left ≡ Some bytes → most_bytes < length bytes →
+    (asked : Request) (old new : Ends) (status : ℕ) (bytes : List ℕ) → HasRun asked old new status →
+    AsksForSome asked → old.left ≡ Some bytes → most_bytes < length bytes →
     ¬ Rises old.read_faults new.read_faults → ¬ Rises old.write_faults new.write_faults →
     (status ≡ 8) ⊎ ((status ≡ 9) × WroteAll old new too_long_text)
 
 -- status 8 comes with nothing written
 abbrev pub NoMemoryWritesNothing : Type 0
-NoMemoryWritesNothing = (words : List (List ℕ)) (old new : Ends) → HasRun words old new 8 → WroteNothing old new
+NoMemoryWritesNothing = (asked : Request) (old new : Ends) → HasRun asked old new 8 → WroteNothing old new
 
 -- whether the status is that of bytes that were read
 abbrev pub is_of_bytes : ℕ → Bool
 is_of_bytes status = list_any (λ s. s == status) (0 ∷ 1 ∷ 3 ∷ 4 ∷ 5 ∷ [])
 
 -- all bytes were read, and the text that is due for them was written whole
-abbrev pub HasAnsweredAll : List (List ℕ) → Ends → Ends → ℕ → Type 0
-HasAnsweredAll words old new status =
-    (command : Command) × (bytes text : List ℕ) × AskFor words command × ReadAll old new bytes
+abbrev pub HasAnsweredAll : Request → Ends → Ends → ℕ → Type 0
+HasAnsweredAll asked old new status =
+    (command : Command) × (bytes text : List ℕ) × (asked ≡ Asks command) × ReadAll old new bytes
     × IsOutput command bytes status text × WroteAll old new text
 
 -- such a status comes only so, or it is 0, the words ask for a generated job, and it was written whole
 abbrev pub AnswerIsOfAllBytes : Type 0
 AnswerIsOfAllBytes =
-    (words : List (List ℕ)) (old new : Ends) (status : ℕ) → HasRun words old new status → IsTrue (is_of_bytes status) →
-    HasAnsweredAll words old new status
-    ⊎ ((number : ℕ) × (status ≡ 0) × AskForJob words number × WroteJob old new number)
+    (asked : Request) (old new : Ends) (status : ℕ) → HasRun asked old new status → IsTrue (is_of_bytes status) →
+    HasAnsweredAll asked old new status
+    ⊎ ((number : ℕ) × (status ≡ 0) × (asked ≡ AsksJob number) × WroteJob old new number)
 
 -- there is no other status
 abbrev pub StatusesAreKnown : Type 0
 StatusesAreKnown =
-    (words : List (List ℕ)) (old new : Ends) (status : ℕ) → HasRun words old new status →
+    (asked : Request) (old new : Ends) (status : ℕ) → HasRun asked old new status →
     IsTrue (is_of_bytes status || list_any (λ s. s == status) (2 ∷ 6 ∷ 7 ∷ 8 ∷ 9 ∷ 10 ∷ []))
 
 -- where the source tells its bytes and has not too many, and neither count of faults rose, a command that reads them
 -- ends with want of memory or says what is due for all bytes
 abbrev pub RunCompletes : Type 0
 RunCompletes =
-    (words : List (List ℕ)) (old new : Ends) (status : ℕ) (command : Command) (bytes : List ℕ) →
-    HasRun words old new status → AskFor words command → old.left ≡ Some bytes → length bytes ≤ most_bytes →
+    (asked : Request) (old new : Ends) (status : ℕ) (command : Command) (bytes : List ℕ) →
+    HasRun asked old new status → asked ≡ Asks command → old.left ≡ Some bytes → length bytes ≤ most_bytes →
     ¬ Rises old.read_faults new.read_faults → ¬ Rises old.write_faults new.write_faults →
     (status ≡ 8) ⊎ ((text : List ℕ) × IsOutput command bytes status text × WroteAll old new text)
 
@@ -152,6 +156,12 @@ OutputIsOne =
 abbrev pub SomethingIsDue : Type 0
 SomethingIsDue =
     (command : Command) (bytes : List ℕ) → (status : ℕ) × (text : List ℕ) × IsOutput command bytes status text
+
+-- on threads the status and the text that are due are those that are due on one thread
+abbrev pub ThreadsAnswerAsOne : Type 0
+ThreadsAnswerAsOne =
+    (cache : ℕ) (bytes : List ℕ) (status : ℕ) (text : List ℕ) →
+    (IsOutput (Run cache) bytes status text ↔ IsOutput (Solo cache) bytes status text)
 
 -- the status that is due is 4 exactly where the bytes are no document: some line of theirs is wrong
 abbrev pub RefusedExactly : Type 0

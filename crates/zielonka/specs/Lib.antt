@@ -1,7 +1,8 @@
 pub mod Limits
 pub mod Requests
-pub mod LocalStates
 pub mod Output
 pub mod Run
+pub mod Shown
 pub mod Laws
+pub mod Headline
 pub mod Private

@@ -15,9 +15,9 @@ use Rattle.za_script.specs.Answer.{IsAnswer}
 use Rattle.za_script.specs.ScriptLists.{script_of}
 use Rattle.za_script.specs.Woven.{weave_of}
 use Rattle.za_report.specs.Texts.{answer_text, check_text, open_text, refused_text}
+use Rattle.za_report.specs.LocalStates.{locals_text}
 use Rattle.zielonka.specs.declared.request.Command.{Command}
-use Rattle.zielonka.specs.declared.request.Command.TheVariants.{Solo, Check, Locals}
-use Rattle.zielonka.specs.LocalStates.{locals_text}
+use Rattle.zielonka.specs.declared.request.Command.TheVariants.{Solo, Run, Check, Locals}
 
 abbrev pub usage_text : List ℕ
 usage_text = codes "usage: zla solo|run|check|locals|journal [--cache C], zla audit, zla gen N\n"
@@ -45,14 +45,19 @@ status_of Stuck = 3
 -- what a command answers to a job whose language is trace-closed
 pub data IsAnswered (job : JobData) : Command → ℕ → List ℕ → Type 0 where
   -- the answer of the automaton as given to the scripts, over all words that weave them
-  Ran : (answer : Answer) →
+  Ran : (cache : ℕ) (answer : Answer) →
       IsAnswer (loc_of job.lang.alphabet) (automaton_of (given job)) (script_of job.scripts) answer →
-      IsAnswered job Solo (status_of answer) (answer_text job.lang.alphabet job.scripts (woven_of job) answer 0)
+      IsAnswered job (Solo cache) (status_of answer)
+      (answer_text job.naming.names job.lang.alphabet job.scripts (woven_of job) answer cache)
+  -- on threads: what is answered on one thread
+  RanOnThreads : (cache status : ℕ) (text : List ℕ) → IsAnswered job (Solo cache) status text →
+      IsAnswered job (Run cache) status text
   -- how many states the minimal automaton has
-  Checked : (d : CompleteDfa) → IsMinimalOf d (given job) →
-      IsAnswered job Check 0 (check_text job.lang.alphabet d.states 0)
+  Checked : (cache : ℕ) (d : CompleteDfa) → IsMinimalOf d (given job) →
+      IsAnswered job (Check cache) 0 (check_text job.lang.alphabet d.states cache)
   -- what each process knows after the woven word, and the state of the minimal automaton after its view
-  Told : (d : CompleteDfa) → IsMinimalOf d (given job) → IsAnswered job Locals 0 (locals_text d (woven_of job))
+  Told : (cache : ℕ) (d : CompleteDfa) → IsMinimalOf d (given job) →
+      IsAnswered job (Locals cache) 0 (locals_text d (woven_of job))
 
 -- the status and the text that are due for a command and a job
 pub data IsDueFor (command : Command) (job : JobData) : ℕ → List ℕ → Type 0 where

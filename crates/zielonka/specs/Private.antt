@@ -1,2 +1,1 @@
-pub mod KeptLines
 pub mod Saying

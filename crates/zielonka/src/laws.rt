@@ -1,10 +1,22 @@
 //! Laws over the definitions alone.
 
+ghost use Rattle.zielonka.specs.Headline.{ClosedIsAnswered, OtherIsRefused};
 ghost use Rattle.zielonka.specs.Laws.{AnswerIsOfAllBytes, CountsStay, NoMemoryWritesNothing, NotBuiltIsOfTheWords};
 ghost use Rattle.zielonka.specs.Laws.{JobCompletes, OpenExactly, OutputIsOne, ReadFaultIsOfTheSource, RefusedExactly};
 ghost use Rattle.zielonka.specs.Laws.{RunCompletes, SomethingIsDue, StatusesAreKnown, TooLongIsOfTheBytes};
-ghost use Rattle.zielonka.specs.Laws.{TooManyComplete, TooManyDecide, UsageIsOfTheWords, WordsDecideNotBuilt};
+ghost use Rattle.zielonka.specs.Laws.{ThreadsAnswerAsOne, TooManyComplete, TooManyDecide, UsageIsOfTheWords};
+ghost use Rattle.zielonka.specs.Laws.{WordsDecideNotBuilt};
 ghost use Rattle.zielonka.specs.Laws.{WordsDecideTheJob, WordsDecideTheUsage, WriteFaultIsOfTheSink};
+
+/// For every job with a trace-closed language that is read to its end without fault, if memory is not refused
+/// and the call returns, `run` writes `accept` exactly if the automaton accepts some word with the scripts as
+/// projections, `reject` exactly if such words exist and none is accepted, and otherwise `stuck` with the one
+/// maximal fired trace, whatever the schedule; a job with any other language is refused.
+#[tactic(auto, using(crate::proofs::Headlines::closed_is_answered, crate::proofs::Headlines::other_is_refused))]
+pub fn run_is_right()
+    ensures closed { ClosedIsAnswered }
+    ensures other { OtherIsRefused }
+{}
 
 /// For each command and each text at most one status and one text are due.
 #[tactic(auto, using(crate::proofs::OneOutput::output_is_one))]
@@ -16,6 +28,13 @@ pub fn what_is_due_is_one()
 #[tactic(auto, using(crate::proofs::SomeOutput::something_is_due))]
 pub fn something_is_due()
     ensures { SomethingIsDue }
+{}
+
+/// What is due on threads is what is due on one: for the same bytes `run` ends with the status and the text
+/// of `solo`.
+#[tactic(auto, using(crate::proofs::OneOutput::threads_answer_as_one))]
+pub fn threads_answer_as_one()
+    ensures { ThreadsAnswerAsOne }
 {}
 
 /// The status that is due is 4 exactly where the bytes are no document, and 5 exactly where they are a

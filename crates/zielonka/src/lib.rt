@@ -3,20 +3,21 @@
 #![tactic(auto)]
 
 mod due;
-mod known;
+mod judging;
 mod laws;
-mod locals;
 mod request;
 mod run;
 mod status;
 
 pub use laws::{
-    refusals_are_exact, something_is_due, statuses_have_their_causes, what_is_due_is_one,
+    refusals_are_exact, run_is_right, something_is_due, statuses_have_their_causes,
+    threads_answer_as_one, what_is_due_is_one,
 };
-pub use request::Command;
-pub use run::{MOST_BYTES, plain};
-pub use status::{Outcome, Status};
+pub use request::{Call, Command};
+pub use run::{MOST_BYTES, plain, threaded, top};
+pub use status::{Outcome, Shown, Status};
 pub use za_command::{Plan, WordsFault, read_words};
+pub use za_runner::{Gate, OpenGate};
 
 #[cfg(test)]
 mod tests;

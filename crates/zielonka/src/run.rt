@@ -1,15 +1,21 @@
 ghost use Rattle.std.specs.Prelude.{◌≡◌, map, string_bytes};
 ghost use Rattle.za_base.specs.Ends.{ends_of};
-ghost use Rattle.zielonka.specs.Run.{HasRun};
-ghost use Rattle.zielonka.specs.Private.Saying.{HasAnswered, HasSaid};
+ghost use Rattle.zielonka.specs.Requests.{request_in};
+ghost use Rattle.zielonka.specs.Run.{HasRun, HasSaid};
+ghost use Rattle.zielonka.specs.Shown.{IsShown};
+ghost use Rattle.zielonka.specs.Private.Saying.{HasBegun, HasTold};
 
-use crate::due::output_of;
-use crate::request::{Command, Request, request_in};
-use crate::status::{Outcome, Status};
+use crate::due::{Output, answer_alone, answer_on_threads};
+use crate::judging::{ClosedJob, Judged, judge};
+use crate::request::{Call, Command, Request, are_for_threads, request_in};
+use crate::status::{Outcome, Shown, Status};
 use std::alloc::Global;
+use std::sync::Wait;
+use std::thread::Threads;
 use za_alpha::OutOfMemory;
 use za_base::{ReadEnd, Sink, Source, read_all, write_all};
 use za_gen::job_of;
+use za_runner::Gate;
 
 /// The most bytes of an input.
 pub const MOST_BYTES: usize = 1_048_576;
@@ -21,38 +27,102 @@ const TOO_LONG: &[u8] = b"refused: more than 1048576 bytes\n";
 
 const NOT_BUILT: &[u8] = b"not built\n";
 
-/// Writes a text. The status is the one given, or 7 where a write failed.
-fn say<K: Sink>(sink: &mut K, status: u8, text: &[u8]) -> Outcome
-    ensures { HasSaid status text.now (K.written sink.old) (K.written sink.new)
-        (K.faults sink.old) (K.faults sink.new) result.status.0 }
+/// How a call begins: it is over, or a job is to be answered of which nothing was written yet.
+#[derive(Drop)]
+enum Begun {
+    Over(Outcome),
+    Asked { command: Command, it: ClosedJob },
+}
+
+/// A status with no finished run.
+fn unshown(status: u8) -> Outcome
+    ensures status { result.status.0 ≡ status }
+    ensures shown { result.shown ≡ Shown.Nothing }
 {
-    match write_all(sink, text) {
-        Ok(()) => Outcome {
-            status: Status(status),
-        },
-        Err(_) => Outcome { status: Status(7) },
+    Outcome {
+        status: Status(status),
+        shown: Shown::Nothing,
     }
 }
 
-/// Reads the source to its end, and writes to the sink what is due for a command and these bytes.
-fn answer<S: Source, K: Sink>(
-    alloc: Global,
-    command: Command,
-    source: &mut S,
-    sink: &mut K,
-) -> Outcome
-    ensures { HasAnswered command
+/// Writes a text. The status is the one given, or 7 where a write failed.
+fn say<K: Sink>(sink: &mut K, status: u8, text: &[u8]) -> Status
+    ensures { HasSaid status text.now (K.written sink.old) (K.written sink.new)
+        (K.faults sink.old) (K.faults sink.new) result.0 }
+{
+    match write_all(sink, text) {
+        Ok(()) => Status(status),
+        Err(_) => Status(7),
+    }
+}
+
+/// Writes a text that is made of no run.
+fn tell<K: Sink>(sink: &mut K, status: u8, text: &[u8]) -> Outcome
+    ensures said { HasSaid status text.now (K.written sink.old) (K.written sink.new)
+        (K.faults sink.old) (K.faults sink.new) result.status.0 }
+    ensures shown { result.shown ≡ Shown.Nothing }
+{
+    Outcome {
+        status: say(sink, status, text),
+        shown: Shown::Nothing,
+    }
+}
+
+/// Reads the source to its end, and refuses bytes that are no job with a trace-closed language.
+fn take<S: Source, K: Sink>(alloc: Global, command: Command, source: &mut S, sink: &mut K) -> Begun
+    ensures { HasBegun (Request.Answer command)
         (ends_of (S.left source.old) (S.faults source.old) (K.written sink.old) (K.faults sink.old))
         (ends_of (S.left source.new) (S.faults source.new) (K.written sink.new) (K.faults sink.new))
-        result.status.0 }
+        result }
 {
     match read_all(alloc, source, MOST_BYTES) {
-        Err(ReadEnd::Fault) => Outcome { status: Status(6) },
-        Err(ReadEnd::OutOfMemory) => Outcome { status: Status(8) },
-        Err(ReadEnd::TooLong) => say(sink, 9, TOO_LONG),
-        Ok(bytes) => match output_of(alloc, command, bytes.as_slice()) {
-            Err(OutOfMemory) => Outcome { status: Status(8) },
-            Ok(output) => say(sink, output.status, output.text.as_slice()),
+        Err(ReadEnd::Fault) => Begun::Over(unshown(6)),
+        Err(ReadEnd::OutOfMemory) => Begun::Over(unshown(8)),
+        Err(ReadEnd::TooLong) => Begun::Over(tell(sink, 9, TOO_LONG)),
+        Ok(bytes) => match judge(alloc, bytes.as_slice()) {
+            Err(OutOfMemory) => Begun::Over(unshown(8)),
+            Ok(Judged::Refused(said)) => {
+                Begun::Over(tell(sink, said.status, said.text.as_slice()))
+            }
+            Ok(Judged::Ready(it)) => Begun::Asked { command, it },
+        },
+    }
+}
+
+/// What all calls begin with: the words are read, and where these ask for it, the source.
+fn begin<S: Source, K: Sink>(
+    alloc: Global,
+    call: Call,
+    words: &[String],
+    source: &mut S,
+    sink: &mut K,
+) -> Begun
+    ensures { HasBegun (request_in call (map string_bytes words.now))
+        (ends_of (S.left source.old) (S.faults source.old) (K.written sink.old) (K.faults sink.old))
+        (ends_of (S.left source.new) (S.faults source.new) (K.written sink.new) (K.faults sink.new))
+        result }
+{
+    match request_in(alloc, call, words) {
+        Err(OutOfMemory) => Begun::Over(unshown(8)),
+        Ok(Request::Usage) => Begun::Over(tell(sink, 2, USAGE)),
+        Ok(Request::NotBuilt) => Begun::Over(tell(sink, 10, NOT_BUILT)),
+        Ok(Request::Answer(command)) => take(alloc, command, source, sink),
+        Ok(Request::Generate { number }) => match job_of(alloc, number) {
+            Err(OutOfMemory) => Begun::Over(unshown(8)),
+            Ok(text) => Begun::Over(tell(sink, 0, text.as_slice())),
+        },
+    }
+}
+
+/// What all calls end with: what was made is written, and shown.
+fn finish<K: Sink>(sink: &mut K, made: Result<Output, OutOfMemory>) -> Outcome
+    ensures { HasTold made (K.written sink.old) (K.written sink.new) (K.faults sink.old) (K.faults sink.new) result }
+{
+    match made {
+        Err(OutOfMemory) => unshown(8),
+        Ok(Output { said, shown }) => Outcome {
+            status: say(sink, said.status, said.text.as_slice()),
+            shown,
         },
     }
 }
@@ -65,8 +135,14 @@ fn answer<S: Source, K: Sink>(
 /// the weave has, and where the scripts are stuck, which these are and what each process waits for.
 /// `check` answers how many states the minimal automaton of the job's language has (0). `locals` answers
 /// what each process knows after the weave (0). `gen` writes the job that is generated from a number (0). Of
-/// other forms `audit` and a cache above 0 aren't built yet (10), and `run` and `journal` are none here; those,
-/// and words in no form, are answered by the usage line (2). In these three cases the source isn't read.
+/// other forms `audit` isn't built yet (10), and `run` and `journal` are none here; those, and words in no
+/// form, are answered by the usage line (2). In these three cases the source isn't read.
+///
+/// The scripts of `solo` and of `locals` are run on one thread, on the local states of the processes alone,
+/// with so many rows of a cache as the words say, which the printed bound counts. Where a text was made so,
+/// it is shown by the finished run: its automaton is the minimal one of the job's language, its scripts are
+/// the job's, its word is the weave, and its answer is the one to the scripts. With a status of 0, 1, 3
+/// or 7 nothing is shown only where no such text was due.
 ///
 /// Bytes that are no document are refused at their first wrong line (4), more than 1,048,576 of them
 /// too (9). A language that isn't closed under trace equivalence is answered by two equivalent words
@@ -83,19 +159,76 @@ pub fn plain<S: Source, K: Sink>(
     source: &mut S,
     sink: &mut K,
 ) -> Outcome
-    ensures { HasRun (map string_bytes words.now)
+    ensures ran { HasRun (request_in Call.Plain (map string_bytes words.now))
         (ends_of (S.left source.old) (S.faults source.old) (K.written sink.old) (K.faults sink.old))
         (ends_of (S.left source.new) (S.faults source.new) (K.written sink.new) (K.faults sink.new))
         result.status.0 }
+    ensures shown { IsShown (request_in Call.Plain (map string_bytes words.now))
+        (ends_of (S.left source.old) (S.faults source.old) (K.written sink.old) (K.faults sink.old))
+        (ends_of (S.left source.new) (S.faults source.new) (K.written sink.new) (K.faults sink.new))
+        result.status.0 result.shown }
 {
-    match request_in(alloc, words) {
-        Err(OutOfMemory) => Outcome { status: Status(8) },
-        Ok(Request::Usage) => say(sink, 2, USAGE),
-        Ok(Request::NotBuilt) => say(sink, 10, NOT_BUILT),
-        Ok(Request::Answer(command)) => answer(alloc, command, source, sink),
-        Ok(Request::Generate { number }) => match job_of(alloc, number) {
-            Err(OutOfMemory) => Outcome { status: Status(8) },
-            Ok(text) => say(sink, 0, text.as_slice()),
-        },
+    match begin(alloc, Call::Plain, words, source, sink) {
+        Begun::Over(outcome) => outcome,
+        Begun::Asked { command, it } => finish(sink, answer_alone(alloc, command, &it)),
+    }
+}
+
+/// The program for the commands that run on threads: as `plain`, but of the forms it has those of `run` and
+/// `journal` alone, and all others are answered by the usage line (2). `journal` isn't built yet (10).
+///
+/// `run` runs the scripts in a hall, with a thread for each process, which passes `gate` before each of its steps.
+/// It ends with the status and the text of `solo`, whatever the schedule was, and the text is made of the closed
+/// hall, which is shown: its answer is the answer to the scripts, and its word is equivalent to the weave, in the order
+/// in which the threads fired it.
+///
+/// It may wait, since threads wait for one another, and nothing says that it returns: all this holds if it does.
+pub fn threaded<R: Threads + Wait + Sync, S: Source, K: Sink, G: Gate>(
+    rt: &R,
+    alloc: Global,
+    words: &[String],
+    source: &mut S,
+    sink: &mut K,
+    gate: &G,
+) -> Outcome
+    ensures ran { HasRun (request_in Call.Threaded (map string_bytes words.now))
+        (ends_of (S.left source.old) (S.faults source.old) (K.written sink.old) (K.faults sink.old))
+        (ends_of (S.left source.new) (S.faults source.new) (K.written sink.new) (K.faults sink.new))
+        result.status.0 }
+    ensures shown { IsShown (request_in Call.Threaded (map string_bytes words.now))
+        (ends_of (S.left source.old) (S.faults source.old) (K.written sink.old) (K.faults sink.old))
+        (ends_of (S.left source.new) (S.faults source.new) (K.written sink.new) (K.faults sink.new))
+        result.status.0 result.shown }
+{
+    match begin(alloc, Call::Threaded, words, source, sink) {
+        Begun::Over(outcome) => outcome,
+        Begun::Asked { command, it } => {
+            finish(sink, answer_on_threads(rt, alloc, command, &it, gate))
+        }
+    }
+}
+
+/// The whole program: the forms of `run` and `journal` are answered by `threaded`, and all else by `plain`.
+pub fn top<R: Threads + Wait + Sync, S: Source, K: Sink, G: Gate>(
+    rt: &R,
+    alloc: Global,
+    words: &[String],
+    source: &mut S,
+    sink: &mut K,
+    gate: &G,
+) -> Outcome
+    ensures ran { HasRun (request_in Call.Top (map string_bytes words.now))
+        (ends_of (S.left source.old) (S.faults source.old) (K.written sink.old) (K.faults sink.old))
+        (ends_of (S.left source.new) (S.faults source.new) (K.written sink.new) (K.faults sink.new))
+        result.status.0 }
+    ensures shown { IsShown (request_in Call.Top (map string_bytes words.now))
+        (ends_of (S.left source.old) (S.faults source.old) (K.written sink.old) (K.faults sink.old))
+        (ends_of (S.left source.new) (S.faults source.new) (K.written sink.new) (K.faults sink.new))
+        result.status.0 result.shown }
+{
+    match are_for_threads(alloc, words) {
+        Err(OutOfMemory) => unshown(8),
+        Ok(true) => threaded(rt, alloc, words, source, sink, gate),
+        Ok(false) => plain(alloc, words, source, sink),
     }
 }

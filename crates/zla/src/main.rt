@@ -6,6 +6,7 @@ ghost use Rattle.std.specs.IoError.{error_kind};
 ghost use Rattle.std.specs.Process.{exit_status};
 ghost use Rattle.std.specs.Vec.Iter.{into_iter_items};
 ghost use Rattle.za_base.specs.Ends.{ends_of};
+ghost use Rattle.zielonka.specs.Requests.{request_in};
 ghost use Rattle.zielonka.specs.Run.{HasRun};
 ghost use Rattle.zla.specs.Refusals.{IsRefusal};
 
@@ -13,8 +14,10 @@ use std::alloc::{AllocError, Global};
 use std::env::{self, Args};
 use std::io::{self, ErrorKind};
 use std::process::ExitCode;
+use std::sync::Wait;
+use std::thread::Threads;
 use za_base::{Sink, Source, StdSink, StdSource};
-use zielonka::{Status, plain};
+use zielonka::{Call, Gate, OpenGate, Status, top};
 
 /// The status where the system refuses the program's arguments: 8 for want of memory, and 11 for any other
 /// kind of error.
@@ -41,13 +44,15 @@ fn words(alloc: Global, args: Args) -> Result<Vec<String>, AllocError>
 }
 
 /// What the program does with its arguments, or with the system's refusal of them.
-fn run<S: Source, K: Sink>(
+fn run<R: Threads + Wait + Sync, S: Source, K: Sink, G: Gate>(
+    rt: &R,
     alloc: Global,
     args: io::Result<Args>,
     source: &mut S,
     sink: &mut K,
+    gate: &G,
 ) -> Status
-    ensures ran { IfOk args (λ args. HasRun (map string_bytes (drop 1 (into_iter_items args)))
+    ensures ran { IfOk args (λ args. HasRun (request_in Call.Top (map string_bytes (drop 1 (into_iter_items args))))
         (ends_of (S.left source.old) (S.faults source.old) (K.written sink.old) (K.faults sink.old))
         (ends_of (S.left source.new) (S.faults source.new) (K.written sink.new) (K.faults sink.new))
         result.0) }
@@ -57,7 +62,7 @@ fn run<S: Source, K: Sink>(
 {
     match args {
         Ok(args) => match words(alloc, args) {
-            Ok(words) => plain(alloc, words.as_slice(), source, sink).status,
+            Ok(words) => top(rt, alloc, words.as_slice(), source, sink, gate).status,
             Err(_) => Status(8),
         },
         Err(error) => refused(error.kind()),
@@ -74,5 +79,6 @@ fn exit_code(status: Status) -> ExitCode
 fn main(rt: HostRuntime) -> ExitCode {
     let mut source = StdSource::new(rt.reader());
     let mut sink = StdSink::new(io::writer(&rt));
-    exit_code(run(rt.alloc(), env::args(&rt), &mut source, &mut sink))
+    let args = env::args(&rt);
+    exit_code(run(&rt, rt.alloc(), args, &mut source, &mut sink, &OpenGate))
 }

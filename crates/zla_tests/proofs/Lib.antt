@@ -1,1 +1,2 @@
 pub mod GossipRows
+pub mod FirstEvents

@@ -4,6 +4,7 @@ use std::alloc::Global;
 use std::process::Abort;
 use std::test::Fail;
 use za_alpha::Letter;
+use za_dfa::Dfa;
 use za_lang::{Job, JobFault, Lang, read_job};
 use za_text::Kind;
 
@@ -280,28 +281,38 @@ fn target(rt: &impl Abort, lang: &Lang, q: u8, a: u8) -> Option<u8> {
     lang.target(q, Letter(a))
 }
 
-#[test]
-fn what_a_job_says(rt: HostRuntime) -> Result<(), Fail> {
-    let alloc = rt.alloc();
-    let text = text_with(alloc, 0, b"")?;
-    let job = job_of(&rt, alloc, text.as_slice());
-    let lang = &job.lang;
+fn assert_head(rt: &impl Abort, lang: &Lang) {
     let alphabet = lang.alphabet();
     assert_eq!(rt; (alphabet.processes(), alphabet.letters()), (2, 3));
-    assert_eq!(rt; alphabet.find(b"c"), Some(Letter(2)));
-    assert_eq!(rt; lang.start(), 0);
+    assert_eq!(rt; (alphabet.find(b"c"), lang.start()), (Some(Letter(2)), 0));
     assert!(rt; lang.states() == 2);
-    assert!(rt; lang.accepting(0) && !lang.accepting(1));
-    for (q, a, r) in [
-        (0, 0, 1),
-        (0, 1, 0),
-        (0, 2, 0),
-        (1, 0, 0),
-        (1, 1, 1),
-        (1, 2, 1),
-    ] {
-        assert_eq!(rt; target(&rt, lang, q, a), Some(r));
+    assert_eq!(rt; (lang.accepting(0), lang.accepting(1)), (true, false));
+}
+
+/// A state, a letter, and the target.
+type Cell = (u8, u8, u8);
+
+fn assert_targets(rt: &impl Abort, lang: &Lang, cells: &[Cell]) {
+    for (q, a, r) in cells {
+        assert_eq!(rt; target(rt, lang, *q, *a), Some(*r), "at {q} {a}");
     }
+}
+
+static CELLS: [Cell; 6] = [
+    (0, 0, 1),
+    (0, 1, 0),
+    (0, 2, 0),
+    (1, 0, 0),
+    (1, 1, 1),
+    (1, 2, 1),
+];
+
+#[test]
+fn what_a_job_says(rt: HostRuntime) -> Result<(), Fail> {
+    let text = text_with(rt.alloc(), 0, b"")?;
+    let job = job_of(&rt, rt.alloc(), text.as_slice());
+    assert_head(&rt, &job.lang);
+    assert_targets(&rt, &job.lang, &CELLS);
     assert_script(&rt, &job, 0, &[0, 2, 0]);
     assert_script(&rt, &job, 1, &[1, 2]);
     Ok(())
@@ -324,23 +335,36 @@ fn script_lines_of_one_process_are_joined(rt: HostRuntime) -> Result<(), Fail> {
     Ok(())
 }
 
+/// The automaton of the lines without the first row, which leads to an added state.
+fn completed(rt: &impl Abort, alloc: Global) -> Result<Dfa, Fail> {
+    let text = text_with(alloc, 9, b"\n")?;
+    let job = job_of(rt, alloc, text.as_slice());
+    assert_eq!(rt; target(rt, &job.lang, 0, 0), None);
+    Ok(job.lang.dfa()?)
+}
+
+fn assert_completed(rt: &impl Abort, lang: &Lang) {
+    assert!(rt; lang.states() == 3);
+    assert_eq!(rt; (lang.alphabet().processes(), lang.start()), (2, 0));
+    assert_eq!(rt;
+        (lang.accepting(0), lang.accepting(1), lang.accepting(2)),
+        (true, false, false)
+    );
+    assert_targets(
+        rt,
+        lang,
+        &[(0, 0, 2), (0, 1, 0), (1, 0, 0), (2, 0, 2), (2, 1, 2)],
+    );
+}
+
 #[test]
 fn the_language_of_a_dfa(rt: HostRuntime) -> Result<(), Fail> {
-    let alloc = rt.alloc();
-    let text = text_with(alloc, 9, b"\n")?;
-    let job = job_of(&rt, alloc, text.as_slice());
-    assert_eq!(rt; target(&rt, &job.lang, 0, 0), None);
-    let dfa = job.lang.dfa()?;
+    let dfa = completed(&rt, rt.alloc())?;
     assert!(rt;
         dfa.states() == 3 && dfa.alphabet().processes() == 2 && dfa.alphabet().letters() == 3
     );
-    let lang = Lang::of(alloc, &dfa)?;
-    assert!(rt; lang.states() == 3 && lang.start() == 0);
-    assert!(rt; lang.accepting(0) && !lang.accepting(1) && !lang.accepting(2));
-    for (q, a, r) in [(0, 0, 2), (0, 1, 0), (1, 0, 0), (2, 0, 2), (2, 1, 2)] {
-        assert_eq!(rt; target(&rt, &lang, q, a), Some(r), "at {q} {a}");
-    }
-    let again = lang.dfa()?;
-    assert_eq!(rt; again.states(), 3);
+    let lang = Lang::of(rt.alloc(), &dfa)?;
+    assert_completed(&rt, &lang);
+    assert_eq!(rt; lang.dfa()?.states(), 3);
     Ok(())
 }

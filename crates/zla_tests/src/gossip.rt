@@ -6,6 +6,7 @@ ghost use Rattle.za_alpha.specs.Words.{has};
 ghost use Rattle.za_alpha.specs.Alphabet.{loc_of};
 ghost use Rattle.za_gossip.specs.Rows.{rows_after, AreRowsAfter};
 
+use crate::samples::{FOUR_PROCESSES, Named, ONE_PROCESS, RING, TWO_PROCESSES, alphabet_of, row};
 use std::alloc::{AllocError, Global};
 use std::process::Abort;
 use std::test::Fail;
@@ -113,6 +114,44 @@ fn opened(alloc: Global, alphabet: &Alphabet) -> Result<Vec<Gossip>, OutOfMemory
     Ok(states)
 }
 
+/// Appends a letter by numbers and by positions, and compares the labels of its event.
+fn step(
+    rt: &impl Abort,
+    alloc: Global,
+    alphabet: &Alphabet,
+    letter: u8,
+    word: &mut Word,
+    states: &mut Vec<Gossip>,
+    marks: &mut Marks,
+) -> Result<(), OutOfMemory>
+    requires states { AreRowsAfter alphabet.now word.old (range_with_len 0 alphabet.now.processes) states.old.items }
+    requires marks { marks.old.alphabet ≡ alphabet.now }
+    ensures states { let all = range_with_len 0 alphabet.now.processes in
+        OnOk result (AreRowsAfter alphabet.now word.new all states.new.items) }
+    ensures marks { OnOk result (marks.new.alphabet ≡ alphabet.now) }
+{
+    let a = Letter(letter);
+    assert!(rt; (letter as usize) < alphabet.letters() && marks.len() < marks.room());
+    let label = fire(alloc, alphabet, a, word, states)?;
+    assert_eq!(rt; marks.push(a), label);
+    Ok(())
+}
+
+fn assert_all_by_marks(
+    rt: &impl Abort,
+    alphabet: &Alphabet,
+    word: &Word,
+    marks: &Marks,
+    states: &[Gossip],
+)
+    requires { marks.now.alphabet ≡ alphabet.now }
+{
+    for (p, state) in states.iter().enumerate() {
+        assert!(rt; p < alphabet.processes());
+        assert_by_marks(rt, alphabet, word, marks, p, state);
+    }
+}
+
 /// Appends letters to the empty word by numbers and by positions, compares their labels and all that
 /// the processes keep after them, and answers the latter.
 fn played(
@@ -130,15 +169,9 @@ fn played(
     let mut states = opened(alloc, alphabet)?;
     let mut marks = Marks::new(alloc, alphabet, letters.len())?;
     for letter in letters {
-        let a = Letter(*letter);
-        assert!(rt; (a.0 as usize) < alphabet.letters() && marks.len() < marks.room());
-        let label = fire(alloc, alphabet, a, word, &mut states)?;
-        assert_eq!(rt; marks.push(a), label);
+        step(rt, alloc, alphabet, *letter, word, &mut states, &mut marks)?;
     }
-    for (p, state) in states.iter().enumerate() {
-        assert!(rt; p < alphabet.processes());
-        assert_by_marks(rt, alphabet, word, &marks, p, state);
-    }
+    assert_all_by_marks(rt, alphabet, word, &marks, states.as_slice());
     Ok(states)
 }
 
@@ -155,6 +188,60 @@ fn number_at(rt: &impl Abort, n: usize, word: &Word, marks: &Marks, at: Option<u
     }
 }
 
+fn assert_number(
+    rt: &impl Abort,
+    n: usize,
+    word: &Word,
+    marks: &Marks,
+    id: EventId,
+    at: Option<usize>,
+) {
+    assert_eq!(rt; id.0, number_at(rt, n, word, marks, at));
+}
+
+fn assert_primary(rt: &impl Abort, n: usize, word: &Word, marks: &Marks, p: usize, ids: &[EventId])
+    requires process { p < n }
+    requires marks { marks.now.alphabet.processes ≡ n }
+{
+    assert_eq!(rt; ids.len(), n);
+    for (q, id) in ids.iter().enumerate() {
+        assert!(rt; q < n);
+        assert_number(rt, n, word, marks, *id, marks.latest(p, q));
+    }
+}
+
+fn assert_block(
+    rt: &impl Abort,
+    n: usize,
+    word: &Word,
+    marks: &Marks,
+    p: usize,
+    q: usize,
+    ids: &[EventId],
+)
+    requires first { p < n }
+    requires second { q < n }
+    requires marks { marks.now.alphabet.processes ≡ n }
+{
+    assert_eq!(rt; ids.len(), n);
+    for (r, id) in ids.iter().enumerate() {
+        assert!(rt; r < n);
+        assert_number(rt, n, word, marks, *id, marks.second(p, q, r));
+    }
+}
+
+fn assert_tertiary(rt: &impl Abort, n: usize, word: &Word, marks: &Marks, p: usize, ids: &[EventId])
+    requires process { p < n }
+    requires marks { marks.now.alphabet.processes ≡ n }
+{
+    assert_eq!(rt; ids.len(), n.wrapping_mul(n).wrapping_mul(n));
+    for (i, id) in ids.iter().enumerate() {
+        let (q, r, s) = (i / n / n, i / n % n, i % n);
+        assert!(rt; q < n && r < n && s < n);
+        assert_number(rt, n, word, marks, *id, marks.third(p, q, r, s));
+    }
+}
+
 /// Compares all that a process keeps with its entries by positions.
 fn assert_by_marks(
     rt: &impl Abort,
@@ -168,100 +255,69 @@ fn assert_by_marks(
     requires marks { marks.now.alphabet ≡ alphabet.now }
 {
     let n = alphabet.processes();
-    assert_eq!(rt; state.primary().len(), n);
+    assert_primary(rt, n, word, marks, p, state.primary());
     for q in 0..n {
-        assert_eq!(rt;
-            state.primary()[q].0,
-            number_at(rt, n, word, marks, marks.latest(p, q))
-        );
-        let block = state.secondary(q);
-        assert_eq!(rt; block.len(), n);
-        for (r, id) in block.iter().enumerate() {
-            assert!(rt; r < n);
-            assert_eq!(rt; id.0, number_at(rt, n, word, marks, marks.second(p, q, r)));
-        }
+        assert!(rt; q < state.primary().len());
+        assert_block(rt, n, word, marks, p, q, state.secondary(q));
     }
-    assert_eq!(rt; state.tertiary().len(), n * n * n);
-    for (i, id) in state.tertiary().iter().enumerate() {
-        assert!(rt; n > 0);
-        let (q, r, s) = (i / n / n, i / n % n, i % n);
-        assert!(rt; q < n && r < n && s < n);
-        assert_eq!(rt;
-            id.0,
-            number_at(rt, n, word, marks, marks.third(p, q, r, s))
-        );
-    }
+    assert_tertiary(rt, n, word, marks, p, state.tertiary());
 }
 
-fn row(alloc: Global, name: &[u8], procs: &[u32]) -> Result<LetterRow, AllocError> {
-    Ok(LetterRow {
-        name: Vec::from_slice(alloc, name)?,
-        procs: Vec::from_slice(alloc, procs)?,
-    })
-}
-
-fn alphabet_of(alloc: Global, n: usize, letters: &[(&[u8], &[u32])]) -> Result<Alphabet, Fail> {
-    let mut rows = Vec::new(alloc);
-    for (name, procs) in letters {
-        rows.push(row(alloc, name, procs)?)?;
-    }
-    Ok(Alphabet::new(alloc, n, rows)?)
-}
-
-const TWO_PROCESSES: [(&[u8], &[u32]); 3] = [(b"a", &[0]), (b"b", &[1]), (b"c", &[0, 1])];
-
-const ONE_PROCESS: [(&[u8], &[u32]); 1] = [(b"a", &[0])];
-
-const FOUR_PROCESSES: [(&[u8], &[u32]); 4] = [
-    (b"c", &[1, 2]),
-    (b"d", &[1, 3]),
-    (b"e", &[0, 3]),
-    (b"f", &[0, 2]),
-];
-
-const RING: [(&[u8], &[u32]); 3] = [(b"x", &[0, 1]), (b"y", &[1, 2]), (b"z", &[0, 2])];
-
-fn assert_ids(rt: &impl Abort, ids: &[EventId], numbers: &[u32]) {
+pub(crate) fn assert_ids(rt: &impl Abort, ids: &[EventId], numbers: &[u32]) {
     assert_eq!(rt; ids.len(), numbers.len());
     for (id, number) in ids.iter().zip(numbers) {
         assert_eq!(rt; id.0, *number);
     }
 }
 
+/// A number of processes, their letters, a word, and the primary entries of the first processes after it.
+type Case = (
+    usize,
+    &'static [Named],
+    &'static [u8],
+    &'static [&'static [u32]],
+);
+
+static CASES: [Case; 7] = [
+    (1, &ONE_PROCESS, &[], &[&[0]]),
+    (1, &ONE_PROCESS, &[0, 0], &[&[2]]),
+    (1, &ONE_PROCESS, &[0, 0, 0], &[&[1]]),
+    (2, &TWO_PROCESSES, &[2], &[&[19, 19], &[19, 19]]),
+    (2, &TWO_PROCESSES, &[0, 1, 2, 0], &[&[1, 19], &[19, 19]]),
+    (
+        4,
+        &FOUR_PROCESSES,
+        &[2, 1, 0, 3],
+        &[
+            &[196, 1, 196, 66],
+            &[131, 1, 1, 66],
+            &[196, 1, 196, 66],
+            &[131, 66, 0, 66],
+        ],
+    ),
+    (3, &RING, &[0, 1, 2, 0, 1, 2, 0], &[]),
+];
+
+fn assert_rows(rt: &impl Abort, states: &[Gossip], rows: &[&[u32]]) {
+    for (state, numbers) in states.iter().zip(rows) {
+        assert_ids(rt, state.primary(), numbers);
+    }
+}
+
+fn assert_case(rt: &impl Abort, alloc: Global, case: &Case) -> Result<(), Fail> {
+    let (n, letters, word, rows) = *case;
+    assert!(rt; word.len() <= 7);
+    let alphabet = alphabet_of(alloc, n, letters)?;
+    let mut played_word = Word::new(alloc);
+    let states = played(rt, alloc, &alphabet, &mut played_word, word)?;
+    assert_rows(rt, states.as_slice(), rows);
+    Ok(())
+}
+
 #[test]
 fn primary_entries_of_words(rt: HostRuntime) -> Result<(), Fail> {
-    let alloc = rt.alloc();
-    for (n, letters, word, rows) in [
-        (
-            1,
-            ONE_PROCESS.as_slice(),
-            [].as_slice(),
-            [[0].as_slice()].as_slice(),
-        ),
-        (1, &ONE_PROCESS, &[0, 0], &[&[2]]),
-        (1, &ONE_PROCESS, &[0, 0, 0], &[&[1]]),
-        (2, &TWO_PROCESSES, &[2], &[&[19, 19], &[19, 19]]),
-        (2, &TWO_PROCESSES, &[0, 1, 2, 0], &[&[1, 19], &[19, 19]]),
-        (
-            4,
-            &FOUR_PROCESSES,
-            &[2, 1, 0, 3],
-            &[
-                &[196, 1, 196, 66],
-                &[131, 1, 1, 66],
-                &[196, 1, 196, 66],
-                &[131, 66, 0, 66],
-            ],
-        ),
-        (3, &RING, &[0, 1, 2, 0, 1, 2, 0], &[]),
-    ] {
-        assert!(rt; word.len() <= 7);
-        let alphabet = alphabet_of(alloc, n, letters)?;
-        let mut played_word = Word::new(alloc);
-        let states = played(&rt, alloc, &alphabet, &mut played_word, word)?;
-        for (state, numbers) in states.iter().zip(rows) {
-            assert_ids(&rt, state.primary(), numbers);
-        }
+    for case in &CASES {
+        assert_case(&rt, rt.alloc(), case)?;
     }
     Ok(())
 }
@@ -283,22 +339,41 @@ fn newest_after(
     Ok(newest(alphabet, a, inputs.as_slice(), r))
 }
 
+/// Compares who has the latest news of each process before `f`.
+fn assert_newest(
+    rt: &impl Abort,
+    alloc: Global,
+    alphabet: &Alphabet,
+    word: &Word,
+    states: &[Gossip],
+    who: &[usize],
+) -> Result<(), OutOfMemory>
+    requires { AreRowsAfter alphabet.now word.now (range_with_len 0 alphabet.now.processes) states.now }
+{
+    let f = Letter(3);
+    for (r, x) in who.iter().enumerate() {
+        assert!(rt; r < alphabet.processes() && 3 < alphabet.letters());
+        assert_eq!(rt; newest_after(alloc, alphabet, f, word, states, r)?, *x);
+    }
+    Ok(())
+}
+
 /// Of process 0 both participants of f know the latest event after e d c, and of each other process
 /// the second alone.
 #[test]
 fn latest_news_before_f(rt: HostRuntime) -> Result<(), Fail> {
     let alloc = rt.alloc();
     let alphabet = alphabet_of(alloc, 4, &FOUR_PROCESSES)?;
-    let f = Letter(3);
-    assert!(rt; alphabet.processes() == 4);
-    assert!(rt; alphabet.letters() == 4);
     let mut word = Word::new(alloc);
     let states = played(&rt, alloc, &alphabet, &mut word, &[2, 1, 0])?;
-    let states = states.as_slice();
-    assert_eq!(rt; newest_after(alloc, &alphabet, f, &word, states, 0)?, 0);
-    assert_eq!(rt; newest_after(alloc, &alphabet, f, &word, states, 1)?, 1);
-    assert_eq!(rt; newest_after(alloc, &alphabet, f, &word, states, 2)?, 1);
-    assert_eq!(rt; newest_after(alloc, &alphabet, f, &word, states, 3)?, 1);
+    assert_newest(
+        &rt,
+        alloc,
+        &alphabet,
+        &word,
+        states.as_slice(),
+        &[0, 1, 1, 1],
+    )?;
     Ok(())
 }
 
@@ -308,7 +383,7 @@ fn next(x: u32) -> u32 {
 }
 
 /// As many letters as there may be, of one to three processes of ten.
-fn wide(alloc: Global, seed: u32) -> Result<Alphabet, Fail> {
+fn wide_rows(alloc: Global, seed: u32) -> Result<Vec<LetterRow>, AllocError> {
     let mut rows = Vec::new(alloc);
     let mut x = seed;
     for i in 0..128u8 {
@@ -319,24 +394,38 @@ fn wide(alloc: Global, seed: u32) -> Result<Alphabet, Fail> {
         }
         rows.push(row)?;
     }
-    Ok(Alphabet::new(alloc, 10, rows)?)
+    Ok(rows)
+}
+
+fn wide(alloc: Global, seed: u32) -> Result<Alphabet, Fail> {
+    Ok(Alphabet::new(alloc, 10, wide_rows(alloc, seed)?)?)
+}
+
+/// 250 letters of such a sequence.
+fn letters_of(alloc: Global, seed: u32) -> Result<Vec<u8>, AllocError> {
+    let mut letters = Vec::new(alloc);
+    let mut x = seed;
+    for _ in 0..250 {
+        x = next(x);
+        letters.push(((x >> 16) % 128) as u8)?;
+    }
+    Ok(letters)
+}
+
+fn assert_random(rt: &impl Abort, alloc: Global, seed: u32) -> Result<(), Fail> {
+    let alphabet = wide(alloc, seed)?;
+    let letters = letters_of(alloc, seed)?;
+    assert!(rt; letters.len() == 250);
+    let mut word = Word::new(alloc);
+    let states = played(rt, alloc, &alphabet, &mut word, letters.as_slice())?;
+    assert_eq!(rt; (states.len(), alphabet.letters()), (10, 128));
+    Ok(())
 }
 
 #[test]
 fn ten_processes_and_random_words(rt: HostRuntime) -> Result<(), Fail> {
-    let alloc = rt.alloc();
-    for seed in [1, 2, 3, 4] {
-        let alphabet = wide(alloc, seed)?;
-        assert!(rt; alphabet.processes() == 10 && alphabet.letters() == 128);
-        let mut letters = [0; 250];
-        let mut x = seed;
-        for letter in &mut letters {
-            x = next(x);
-            *letter = ((x >> 16) % 128) as u8;
-        }
-        let mut word = Word::new(alloc);
-        let states = played(&rt, alloc, &alphabet, &mut word, &letters)?;
-        assert_eq!(rt; states.len(), 10);
+    for seed in 1..5 {
+        assert_random(&rt, rt.alloc(), seed)?;
     }
     Ok(())
 }

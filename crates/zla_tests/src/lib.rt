@@ -2,6 +2,8 @@
 #![tactic(auto)]
 
 #[cfg(test)]
+mod audits;
+#[cfg(test)]
 mod documents;
 #[cfg(test)]
 mod gossip;
@@ -14,6 +16,20 @@ mod minimal;
 #[cfg(test)]
 mod orders;
 #[cfg(test)]
+mod pasts;
+#[cfg(test)]
 mod refusals;
 #[cfg(test)]
+mod residues;
+#[cfg(test)]
+mod samples;
+#[cfg(test)]
+mod shared;
+#[cfg(test)]
+mod tables;
+#[cfg(test)]
 mod top;
+#[cfg(test)]
+mod versions;
+#[cfg(test)]
+mod views;

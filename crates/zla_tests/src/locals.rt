@@ -3,13 +3,16 @@
 ghost use Rattle.std.specs.Prelude.{◌≡◌, ℕ, ◌<◌, ◌≤◌, List, [], length, IfOk, OnOk};
 ghost use Rattle.za_local.specs.Locals.{AreAllLocalsAfter, HasShape};
 
+use crate::gossip::assert_ids;
+use crate::samples::{closed_of, row, to_and_fro};
 use std::alloc::{AllocError, Global};
 use std::process::Abort;
 use std::test::Fail;
 use za_alpha::{Alphabet, Letter, LetterRow, OutOfMemory, Procs, Word};
-use za_dfa::{Closed, Dfa};
+use za_dfa::Closed;
+use za_gossip::Gossip;
 use za_local::{Bench, Local, fire_on, opening, openings, verdict, view_state};
-use za_order::past;
+use za_order::{BitRow, past};
 use za_views::Marks;
 
 /// Appends a letter to the word, gives each process its local state after it, and answers the label.
@@ -38,7 +41,7 @@ fn fire(
 
 /// Appends letters to the empty word, compares the labels of their events, and answers the local
 /// states after them.
-fn played(
+pub(crate) fn played(
     rt: &impl Abort,
     alloc: Global,
     closed: &Closed,
@@ -52,16 +55,9 @@ fn played(
     let mut bench = Bench::new(alloc, closed)?;
     let mut fresh = opening(alloc, closed)?;
     for (letter, label) in events {
-        let a = Letter(*letter);
-        assert!(rt; (a.0 as usize) < closed.dfa().alphabet().letters());
-        let fired = fire(
-            closed,
-            a,
-            word,
-            locals.as_mut_slice(),
-            &mut bench,
-            &mut fresh,
-        )?;
+        assert!(rt; (*letter as usize) < closed.dfa().alphabet().letters());
+        let slice = locals.as_mut_slice();
+        let fired = fire(closed, Letter(*letter), word, slice, &mut bench, &mut fresh)?;
         assert_eq!(rt; fired, *label);
     }
     Ok(locals)
@@ -86,6 +82,17 @@ fn seen(closed: &Closed, locals: &[Local], p: usize) -> u8
     view_state(closed, &locals[p])
 }
 
+/// The letters of the events that are marked.
+fn marked(alloc: Global, word: &Word, marks: &BitRow) -> Result<Word, OutOfMemory> {
+    let mut view = Word::new(alloc);
+    for (i, letter) in word.letters().iter().enumerate() {
+        if i < marks.len() && marks.has(i) {
+            view.push(*letter)?;
+        }
+    }
+    Ok(view)
+}
+
 /// The letters of the view of a process whose latest event is `last`, by positions.
 fn view_of(
     rt: &impl Abort,
@@ -94,22 +101,17 @@ fn view_of(
     word: &Word,
     last: Option<usize>,
 ) -> Result<Word, OutOfMemory> {
-    let mut view = Word::new(alloc);
-    if let Some(e) = last {
-        assert!(rt; e < word.len() && alphabet.has_word(word));
-        let marks = past(alloc, alphabet, word, e)?;
-        for (i, letter) in word.letters().iter().enumerate() {
-            assert!(rt; i < marks.len());
-            if marks.has(i) {
-                view.push(*letter)?;
-            }
-        }
-    }
-    Ok(view)
+    let Some(e) = last else {
+        return Ok(Word::new(alloc));
+    };
+    assert!(rt; e < word.len() && alphabet.has_word(word));
+    let marks = past(alloc, alphabet, word, e)?;
+    assert_eq!(rt; marks.len(), word.len());
+    marked(alloc, word, &marks)
 }
 
 /// Appends letters to marks, and answers them with the labels of their events, by positions.
-fn labelled(
+pub(crate) fn labelled(
     rt: &impl Abort,
     alloc: Global,
     alphabet: &Alphabet,
@@ -134,8 +136,43 @@ fn run(rt: &impl Abort, closed: &Closed, word: &Word) -> u8 {
     closed.dfa().run(closed.dfa().start(), word)
 }
 
-/// Compares labels with those by positions, and states by local states with where words lead: the
-/// view of each process by positions, and the whole word.
+/// Compares the state of each process's view, by its local state, with where the view by positions leads.
+fn assert_views(
+    rt: &impl Abort,
+    alloc: Global,
+    closed: &Closed,
+    word: &Word,
+    marks: &Marks,
+    locals: &[Local],
+) -> Result<(), OutOfMemory>
+    requires locals { (w : List ℕ) × AreAllLocalsAfter closed.now w locals.now }
+    requires marks { marks.now.alphabet ≡ closed.now.alphabet }
+{
+    let alphabet = closed.dfa().alphabet();
+    for p in 0..alphabet.processes() {
+        assert!(rt; p < locals.len());
+        let view = view_of(rt, alloc, alphabet, word, marks.latest(p, p))?;
+        assert_eq!(rt; seen(closed, locals, p), run(rt, closed, &view));
+    }
+    Ok(())
+}
+
+/// Compares the state of the whole word, by the local states, with where the word leads.
+fn assert_whole(
+    rt: &impl Abort,
+    alloc: Global,
+    closed: &Closed,
+    word: &Word,
+    locals: &[Local],
+) -> Result<(), OutOfMemory>
+    requires { (w : List ℕ) × AreAllLocalsAfter closed.now w locals.now }
+{
+    assert_eq!(rt; joined(alloc, closed, locals)?, run(rt, closed, word));
+    Ok(())
+}
+
+/// Plays the letters, and compares their labels with those by positions, and states by local states
+/// with where words lead: the view of each process by positions, and the whole word.
 fn assert_by_positions(
     rt: &impl Abort,
     alloc: Global,
@@ -149,29 +186,17 @@ fn assert_by_positions(
     let events = labelled(rt, alloc, alphabet, &mut marks, letters)?;
     let mut word = Word::new(alloc);
     let locals = played(rt, alloc, closed, &mut word, events.as_slice())?;
-    for p in 0..alphabet.processes() {
-        assert!(rt; p < locals.len());
-        let view = view_of(rt, alloc, alphabet, &word, marks.latest(p, p))?;
-        assert_eq!(rt; seen(closed, locals.as_slice(), p), run(rt, closed, &view));
-    }
-    assert_eq!(rt;
-        joined(alloc, closed, locals.as_slice())?,
-        run(rt, closed, &word)
-    );
-    Ok(())
+    assert_views(rt, alloc, closed, &word, &marks, locals.as_slice())?;
+    assert_whole(rt, alloc, closed, &word, locals.as_slice())
 }
 
 /// A letter with a name of two bytes, by its number, and its processes.
 fn letter_row(alloc: Global, number: u8, procs: &[u32]) -> Result<LetterRow, AllocError> {
-    let name = [b'a' + number / 26, b'a' + number % 26];
-    Ok(LetterRow {
-        name: Vec::from_slice(alloc, &name)?,
-        procs: Vec::from_slice(alloc, procs)?,
-    })
+    row(alloc, &[b'a' + number / 26, b'a' + number % 26], procs)
 }
 
 /// 128 letters of one to three of ten processes each.
-fn widest(alloc: Global) -> Result<Alphabet, Fail> {
+fn widest_rows(alloc: Global) -> Result<Vec<LetterRow>, AllocError> {
     let mut rows = Vec::new(alloc);
     for i in 0..128u8 {
         let first = (i % 10) as u32;
@@ -179,7 +204,7 @@ fn widest(alloc: Global) -> Result<Alphabet, Fail> {
         let third = if i < 100 { second } else { (i % 7) as u32 };
         rows.push(letter_row(alloc, i, &[first, second, third])?)?;
     }
-    Ok(Alphabet::new(alloc, 10, rows)?)
+    Ok(rows)
 }
 
 /// The target of a letter in a table of 129 states. Each of the first 128 is a number below 8, which
@@ -204,36 +229,24 @@ fn wide_target(q: u8, a: u8, procs: Procs) -> u8 {
     first % 8 * 16 + second % 16
 }
 
-/// The automaton of the entries, which all accept.
-fn closed_of(
-    rt: &impl Abort,
-    alloc: Global,
-    alphabet: Alphabet,
-    states: usize,
-    targets: Vec<u8>,
-) -> Result<Closed, Fail> {
-    let mut accepting = Vec::new(alloc);
-    for _ in 0..states {
-        accepting.push(true)?;
-    }
-    assert!(rt; Dfa::is_table(&alphabet, 0, &accepting, &targets));
-    match Closed::new(Dfa::of_table(alphabet, 0, accepting, targets)) {
-        Ok(closed) => Ok(closed),
-        Err(_) => panic!(rt; "a diamond is broken"),
-    }
-}
-
-/// The table of 129 states over the widest alphabet.
-fn wide(rt: &impl Abort, alloc: Global) -> Result<Closed, Fail> {
-    let alphabet = widest(alloc)?;
-    assert!(rt; alphabet.letters() == 128);
+fn wide_targets(alloc: Global, alphabet: &Alphabet) -> Result<Vec<u8>, AllocError>
+    requires { length alphabet.now.letters ≡ 128 }
+{
     let mut targets = Vec::new(alloc);
     for q in 0..129u8 {
         for a in 0..128u8 {
             targets.push(wide_target(q, a, alphabet.loc(Letter(a))))?;
         }
     }
-    closed_of(rt, alloc, alphabet, 129, targets)
+    Ok(targets)
+}
+
+/// The table of 129 states over the widest alphabet.
+pub(crate) fn wide(rt: &impl Abort, alloc: Global) -> Result<Closed, Fail> {
+    let alphabet = Alphabet::new(alloc, 10, widest_rows(alloc)?)?;
+    assert!(rt; alphabet.letters() == 128);
+    let targets = wide_targets(alloc, &alphabet)?;
+    closed_of(rt, alloc, alphabet, 0, targets)
 }
 
 /// The next of a sequence of numbers without an apparent order.
@@ -245,7 +258,7 @@ fn next(seed: u32) -> u32
 }
 
 /// Letters of such a sequence.
-fn letters_of(alloc: Global, seed: u32, count: usize) -> Result<Vec<u8>, AllocError> {
+pub(crate) fn letters_of(alloc: Global, seed: u32, count: usize) -> Result<Vec<u8>, AllocError> {
     let mut letters = Vec::new(alloc);
     let mut seed = seed;
     for _ in 0..count {
@@ -255,33 +268,130 @@ fn letters_of(alloc: Global, seed: u32, count: usize) -> Result<Vec<u8>, AllocEr
     Ok(letters)
 }
 
+fn assert_random(
+    rt: &impl Abort,
+    alloc: Global,
+    closed: &Closed,
+    seed: u32,
+    count: usize,
+) -> Result<(), OutOfMemory> {
+    let letters = letters_of(alloc, seed, count)?;
+    assert!(rt; letters.len() <= 65536);
+    assert_by_positions(rt, alloc, closed, letters.as_slice())
+}
+
 #[test]
 fn labels_and_states_of_random_words(rt: HostRuntime) -> Result<(), Fail> {
-    let alloc = rt.alloc();
-    let closed = wide(&rt, alloc)?;
+    let closed = wide(&rt, rt.alloc())?;
     for (seed, count) in [(1, 60), (2, 60), (3, 20), (4, 8)] {
-        let letters = letters_of(alloc, seed, count)?;
-        assert!(rt; letters.len() <= 65536);
-        assert_by_positions(&rt, alloc, &closed, letters.as_slice())?;
+        assert_random(&rt, rt.alloc(), &closed, seed, count)?;
     }
     Ok(())
 }
 
-/// Ten letters, each of two neighbours of ten processes in a ring, over one state.
-fn ring(rt: &impl Abort, alloc: Global) -> Result<Closed, Fail> {
+/// Ten letters, each of two neighbours of ten processes in a ring.
+fn ring_rows(alloc: Global) -> Result<Vec<LetterRow>, AllocError> {
     let mut rows = Vec::new(alloc);
-    let mut targets = Vec::new(alloc);
     for i in 0..10u8 {
         rows.push(letter_row(alloc, i, &[i as u32, ((i + 1) % 10) as u32])?)?;
-        targets.push(0)?;
     }
-    closed_of(rt, alloc, Alphabet::new(alloc, 10, rows)?, 1, targets)
+    Ok(rows)
+}
+
+/// The ring over one state.
+fn ring(rt: &impl Abort, alloc: Global) -> Result<Closed, Fail> {
+    let alphabet = Alphabet::new(alloc, 10, ring_rows(alloc)?)?;
+    closed_of(rt, alloc, alphabet, 0, vec![in alloc; 0; 10]?)
 }
 
 #[test]
 fn ring_of_ten(rt: HostRuntime) -> Result<(), Fail> {
-    let alloc = rt.alloc();
-    let closed = ring(&rt, alloc)?;
-    assert_by_positions(&rt, alloc, &closed, &[0, 1, 2, 3, 4, 5, 6, 7, 8, 9])?;
+    let closed = ring(&rt, rt.alloc())?;
+    assert_by_positions(&rt, rt.alloc(), &closed, &[0, 1, 2, 3, 4, 5, 6, 7, 8, 9])?;
+    Ok(())
+}
+
+/// The local states of both processes after a letter as the first event, whose label is 0.
+fn after_first(
+    rt: &impl Abort,
+    alloc: Global,
+    closed: &Closed,
+    letter: u8,
+) -> Result<Vec<Local>, OutOfMemory>
+    ensures { IfOk result (λ locals. (w : List ℕ) × AreAllLocalsAfter closed.now w locals.items) }
+{
+    let mut word = Word::new(alloc);
+    played(rt, alloc, closed, &mut word, &[(letter, 0)])
+}
+
+/// Compares the states of the views of two processes, and that of the whole word.
+fn assert_states(
+    rt: &impl Abort,
+    alloc: Global,
+    closed: &Closed,
+    locals: &[Local],
+    views: [u8; 2],
+    whole: u8,
+) -> Result<(), OutOfMemory>
+    requires { (w : List ℕ) × AreAllLocalsAfter closed.now w locals.now }
+{
+    assert!(rt; locals.len() == 2);
+    assert_eq!(rt; [seen(closed, locals, 0), seen(closed, locals, 1)], views);
+    assert_eq!(rt; joined(alloc, closed, locals)?, whole);
+    Ok(())
+}
+
+/// Every entry is the first event of `c`, whose number is 19.
+fn assert_first(rt: &impl Abort, gossip: &Gossip) {
+    assert_ids(rt, gossip.primary(), &[19; 2]);
+    assert!(rt; gossip.primary().len() == 2);
+    assert_ids(rt, gossip.secondary(0), &[19; 2]);
+    assert_ids(rt, gossip.secondary(1), &[19; 2]);
+    assert_ids(rt, gossip.tertiary(), &[19; 8]);
+}
+
+/// Whether two processes have one local state.
+fn are_same(rt: &impl Abort, locals: &[Local]) -> bool {
+    assert!(rt; locals.len() == 2);
+    locals[0] == locals[1]
+}
+
+#[test]
+fn first_transition(rt: HostRuntime) -> Result<(), Fail> {
+    let closed = to_and_fro(&rt, rt.alloc())?;
+    let locals = after_first(&rt, rt.alloc(), &closed, 2)?;
+    for local in &locals {
+        assert_first(&rt, local.gossip());
+    }
+    assert!(rt; are_same(&rt, &locals));
+    assert_states(&rt, rt.alloc(), &closed, &locals, [0, 0], 0)?;
+    Ok(())
+}
+
+#[test]
+fn a_letter_of_one_process(rt: HostRuntime) -> Result<(), Fail> {
+    let closed = to_and_fro(&rt, rt.alloc())?;
+    let locals = after_first(&rt, rt.alloc(), &closed, 0)?;
+    assert!(rt; !are_same(&rt, &locals));
+    assert_states(&rt, rt.alloc(), &closed, &locals, [1, 0], 1)?;
+    Ok(())
+}
+
+/// Puts an opening on an empty bench, finds it there, and takes it off again.
+fn assert_counts(rt: &impl Abort, alloc: Global, closed: &Closed) -> Result<(), OutOfMemory> {
+    let local = opening(alloc, closed)?;
+    let mut bench = Bench::new(alloc, closed)?;
+    assert!(rt; bench.is_empty() && closed.dfa().alphabet().processes() == 2);
+    bench.add(&local);
+    assert!(rt; bench.len() == 1 && bench.has(0, &local));
+    bench.clear();
+    assert_eq!(rt; bench.len(), 0);
+    Ok(())
+}
+
+#[test]
+fn benches_count(rt: HostRuntime) -> Result<(), Fail> {
+    let closed = to_and_fro(&rt, rt.alloc())?;
+    assert_counts(&rt, rt.alloc(), &closed)?;
     Ok(())
 }

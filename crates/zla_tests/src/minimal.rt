@@ -1,28 +1,32 @@
-//! Minimal tables, access words, and words that tell states apart.
+//! Minimal tables, access words, words that tell states apart, and hope.
+
+ghost use Rattle.std.specs.Prelude.{◌≡◌};
 
 use std::alloc::{AllocError, Global};
 use std::process::Abort;
 use std::test::Fail;
 use za_alpha::{Alphabet, Letter, LetterRow};
-use za_dfa::Dfa;
-use za_min::minimise;
+use za_dfa::{Dfa, Row};
+use za_min::{Hope, Live, Minimal, minimise};
 
 const A: Letter = Letter(0);
 
 const B: Letter = Letter(1);
 
-fn letter_row(alloc: Global, name: u8, process: u32) -> Result<LetterRow, AllocError> {
+const C: Letter = Letter(2);
+
+fn letter_row(alloc: Global, name: u8, procs: &[u32]) -> Result<LetterRow, AllocError> {
     Ok(LetterRow {
         name: Vec::from_slice(alloc, &[name])?,
-        procs: Vec::from_slice(alloc, &[process])?,
+        procs: Vec::from_slice(alloc, procs)?,
     })
 }
 
 /// A letter `a` of the first of two processes, and `b` of the second.
 fn two_letters(alloc: Global) -> Result<Alphabet, Fail> {
     let mut rows = Vec::new(alloc);
-    rows.push(letter_row(alloc, b'a', 0)?)?;
-    rows.push(letter_row(alloc, b'b', 1)?)?;
+    rows.push(letter_row(alloc, b'a', &[0])?)?;
+    rows.push(letter_row(alloc, b'b', &[1])?)?;
     Ok(Alphabet::new(alloc, 2, rows)?)
 }
 
@@ -73,7 +77,7 @@ struct Case<'a> {
     targets: &'a [u8],
 }
 
-const CASES: [Case; 5] = [
+static CASES: [Case; 5] = [
     Case {
         given: SIX,
         accepting: &[false, false, false, true],
@@ -121,24 +125,44 @@ const CASES: [Case; 5] = [
     },
 ];
 
-#[test]
-fn minimal_tables(rt: HostRuntime) -> Result<(), Fail> {
-    for case in &CASES {
-        let dfa = minimise(rt.alloc(), &dfa_of(&rt, &case.given)?)?.into_dfa();
-        assert_eq!(rt; dfa.start(), 0);
-        assert_eq!(rt; accepting_of(rt.alloc(), &dfa)?.as_slice(), case.accepting);
-        assert_eq!(rt; targets_of(rt.alloc(), &dfa)?.as_slice(), case.targets);
-    }
+fn assert_case<R: Abort + AllocGlobal>(rt: &R, case: &Case) -> Result<(), Fail> {
+    let dfa = minimise(rt.alloc(), &dfa_of(rt, &case.given)?)?.into_dfa();
+    assert_eq!(rt; dfa.start(), 0);
+    assert_eq!(rt; accepting_of(rt.alloc(), &dfa)?.as_slice(), case.accepting);
+    assert_eq!(rt; targets_of(rt.alloc(), &dfa)?.as_slice(), case.targets);
     Ok(())
 }
 
 #[test]
-fn access_words_and_words_that_tell_apart(rt: HostRuntime) -> Result<(), Fail> {
-    let minimal = minimise(rt.alloc(), &dfa_of(&rt, &SIX)?)?;
+fn minimal_tables(rt: HostRuntime) -> Result<(), Fail> {
+    for case in &CASES {
+        assert_case(&rt, case)?;
+    }
+    Ok(())
+}
+
+/// The access words of states.
+static ACCESS: [(u8, &[Letter]); 3] = [(0, &[]), (2, &[B]), (3, &[A, B])];
+
+fn assert_access(rt: &impl Abort, minimal: &Minimal) {
     assert_eq!(rt; minimal.dfa().states(), 4);
-    assert_eq!(rt; minimal.access(0), [].as_slice());
-    assert_eq!(rt; minimal.access(2), [B].as_slice());
-    assert_eq!(rt; minimal.access(3), [A, B].as_slice());
+    for (q, word) in &ACCESS {
+        assert!(rt; (*q as usize) < minimal.dfa().states());
+        assert_eq!(rt; minimal.access(*q), *word);
+    }
+}
+
+#[test]
+fn access_words(rt: HostRuntime) -> Result<(), Fail> {
+    let minimal = minimise(rt.alloc(), &dfa_of(&rt, &SIX)?)?;
+    assert_access(&rt, &minimal);
+    Ok(())
+}
+
+#[test]
+fn words_that_tell_apart(rt: HostRuntime) -> Result<(), Fail> {
+    let minimal = minimise(rt.alloc(), &dfa_of(&rt, &SIX)?)?;
+    assert!(rt; minimal.dfa().states() == 4);
     assert!(rt; minimal.apart(1, 1)?.is_none());
     let word = minimal.apart(0, 1)?.expect(&rt, "told apart");
     assert_eq!(rt; word.letters(), [B].as_slice());
@@ -159,8 +183,8 @@ fn chain_targets(alloc: Global) -> Result<Vec<u8>, AllocError> {
     Ok(targets)
 }
 
-#[test]
-fn all_of_129_states_are_told_apart(rt: HostRuntime) -> Result<(), Fail> {
+/// The chain, whose last state accepts.
+fn chain<R: Abort + AllocGlobal>(rt: &R) -> Result<Dfa, Fail> {
     let alphabet = two_letters(rt.alloc())?;
     let targets = chain_targets(rt.alloc())?;
     let mut accepting = Vec::new(rt.alloc());
@@ -168,11 +192,62 @@ fn all_of_129_states_are_told_apart(rt: HostRuntime) -> Result<(), Fail> {
         accepting.push(state == 127)?;
     }
     assert!(rt; Dfa::is_table(&alphabet, 0, &accepting, &targets));
-    let dfa = Dfa::of_table(alphabet, 0, accepting, targets);
-    let minimal = minimise(rt.alloc(), &dfa)?;
+    Ok(Dfa::of_table(alphabet, 0, accepting, targets))
+}
+
+#[test]
+fn all_of_129_states_are_told_apart(rt: HostRuntime) -> Result<(), Fail> {
+    let minimal = minimise(rt.alloc(), &chain(&rt)?)?;
     assert_eq!(rt; minimal.dfa().states(), 129);
     assert_eq!(rt; minimal.access(128).len(), 127);
     let word = minimal.apart(0, 2)?.expect(&rt, "told apart");
     assert_eq!(rt; word.len(), 127);
     Ok(())
+}
+
+/// Tries states, of which the hope is said.
+fn try_hopes<R: Abort + AllocGlobal>(rt: &R, dfa: &Dfa, hopes: &[(u8, Hope)]) -> Result<(), Fail> {
+    let live = Live::of(rt.alloc(), dfa)?;
+    for (q, hope) in hopes {
+        assert!(rt; (*q as usize) < dfa.states());
+        assert_eq!(rt; live.hope(*q), *hope, "at {q}");
+    }
+    Ok(())
+}
+
+/// `a`, `b`, and `c` of both processes.
+fn three_letters(alloc: Global) -> Result<Alphabet, Fail> {
+    let mut rows = Vec::new(alloc);
+    rows.push(letter_row(alloc, b'a', &[0])?)?;
+    rows.push(letter_row(alloc, b'b', &[1])?)?;
+    rows.push(letter_row(alloc, b'c', &[0, 1])?)?;
+    Ok(Alphabet::new(alloc, 2, rows)?)
+}
+
+/// Leads from state 0 to itself.
+fn stays(letter: Letter) -> Row
+    ensures { result.letter ≡ letter }
+{
+    Row {
+        from: 0,
+        letter,
+        to: 0,
+    }
+}
+
+/// `b` has no row, so it leads to the added state.
+#[test]
+fn the_added_state_is_dead(rt: HostRuntime) -> Result<(), Fail> {
+    let alphabet = three_letters(rt.alloc())?;
+    assert!(rt; alphabet.letters() == 3);
+    let accepting = Vec::from_slice(rt.alloc(), &[true])?;
+    let rows = [stays(A), stays(C)];
+    let dfa = Dfa::complete(rt.alloc(), alphabet, 1, 0, accepting, &rows)?;
+    try_hopes(&rt, &dfa, &[(0, Hope::Alive), (1, Hope::Dead)])
+}
+
+#[test]
+fn a_long_way_is_hope_too(rt: HostRuntime) -> Result<(), Fail> {
+    let hopes = [(0, Hope::Alive), (127, Hope::Alive), (128, Hope::Dead)];
+    try_hopes(&rt, &chain(&rt)?, &hopes)
 }

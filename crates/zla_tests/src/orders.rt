@@ -7,8 +7,8 @@ use std::process::Abort;
 use std::test::Fail;
 use za_alpha::{Alphabet, Letter, OutOfMemory, Word};
 use za_closure::close;
-use za_dfa::Dfa;
-use za_lang::{Job, read_job};
+use za_dfa::{Closed, Dfa};
+use za_lang::{Job, Lang, read_job};
 use za_script::{Scripts, weave};
 
 /// Whether the letter is the next one of each of its processes after the word.
@@ -91,32 +91,56 @@ fn assert_same_answer(rt: &impl Abort, dfa: &Dfa, word: &Word, woven: &Word) {
 }
 
 /// How many words fit the scripts maximally; each has the answer of the weave.
-fn orders_of(rt: &impl Abort, alloc: Global, job: &Job) -> Result<usize, Fail> {
-    let dfa = job.lang.dfa()?;
-    let closed = close(alloc, &dfa).ok().ok_or("not closed")?;
-    let dfa = closed.dfa();
-    assert!(rt; job.scripts.fits(dfa.alphabet()));
-    let woven = weave(alloc, dfa.alphabet(), &job.scripts)?;
-    let maximal = maximal_words(rt, alloc, dfa.alphabet(), &job.scripts)?;
+fn orders_of(
+    rt: &impl Abort,
+    alloc: Global,
+    dfa: &Dfa,
+    scripts: &Scripts,
+) -> Result<usize, OutOfMemory> {
+    assert!(rt; scripts.fits(dfa.alphabet()));
+    let woven = weave(alloc, dfa.alphabet(), scripts)?;
+    let maximal = maximal_words(rt, alloc, dfa.alphabet(), scripts)?;
     for word in &maximal {
         assert_same_answer(rt, dfa, word, woven.word());
     }
     Ok(maximal.len())
 }
 
+fn job_of(rt: &impl Abort, alloc: Global, head: &str, scripts: &str) -> Result<Job, Fail> {
+    let text = joined(alloc, head, scripts)?;
+    assert!(rt; text.len() < 1000);
+    Ok(read_job(alloc, text.as_slice()).ok().ok_or("refused")?)
+}
+
+fn closed_of(alloc: Global, lang: &Lang) -> Result<Closed, Fail> {
+    Ok(close(alloc, &lang.dfa()?).ok().ok_or("not closed")?)
+}
+
+/// A job, and how many words fit its scripts maximally.
+static ORDERS: [(&str, &str, usize); 4] = [
+    (TWO, TWO_SCRIPTS, 2),
+    (TWO, "script 0 a a c\nscript 1 b b c\nend\n", 6),
+    (TWO, STUCK_SCRIPTS, 1),
+    (LOCK, LOCK_SCRIPTS, 1),
+];
+
+fn assert_orders(
+    rt: &impl Abort,
+    alloc: Global,
+    head: &str,
+    scripts: &str,
+    orders: usize,
+) -> Result<(), Fail> {
+    let job = job_of(rt, alloc, head, scripts)?;
+    let closed = closed_of(alloc, &job.lang)?;
+    assert_eq!(rt; orders_of(rt, alloc, closed.dfa(), &job.scripts)?, orders);
+    Ok(())
+}
+
 #[test]
 fn every_order_of_firing_has_the_answer_of_the_weave(rt: HostRuntime) -> Result<(), Fail> {
-    let alloc = rt.alloc();
-    for (head, scripts, orders) in [
-        (TWO, TWO_SCRIPTS, 2usize),
-        (TWO, "script 0 a a c\nscript 1 b b c\nend\n", 6),
-        (TWO, STUCK_SCRIPTS, 1),
-        (LOCK, LOCK_SCRIPTS, 1),
-    ] {
-        let text = joined(alloc, head, scripts)?;
-        assert!(rt; text.len() < 1000);
-        let job = read_job(alloc, text.as_slice()).ok().ok_or("refused")?;
-        assert_eq!(rt; orders_of(&rt, alloc, &job)?, orders);
+    for (head, scripts, orders) in &ORDERS {
+        assert_orders(&rt, rt.alloc(), head, scripts, *orders)?;
     }
     Ok(())
 }

@@ -3,6 +3,7 @@
 use crate::jobs::{OPEN, TWO, TWO_SCRIPTS};
 use crate::top::{SOLO, WHOLE, assert_run, joined};
 use std::alloc::{AllocError, Global};
+use std::process::Abort;
 use std::test::Fail;
 
 /// Which lines of the job of two processes are changed, from one on and so many, the lines in their place,
@@ -33,10 +34,16 @@ fn changed(alloc: Global, text: &[u8], change: &Change) -> Result<Vec<u8>, Alloc
 
 const ACCEPTED: &str = "accept\nfired 4\nbound labels 27 records 3\n";
 
-const CHANGES: [Change; 31] = [
+static CHANGES: [Change; 31] = [
     // each kind of refusal
     (7, 1, "start 0\r\n", 4, "refused line 7: bad byte\n"),
-    (1, 1, "zla 3\n", 4, "refused line 1: header is not zla 1\n"),
+    (
+        1,
+        1,
+        "zla 3\n",
+        4,
+        "refused line 1: header is not zla 1 or 2\n",
+    ),
     (
         6,
         2,
@@ -135,7 +142,7 @@ const CHANGES: [Change; 31] = [
         1,
         "zla 1 1\n",
         4,
-        "refused line 1: header is not zla 1\n",
+        "refused line 1: header is not zla 1 or 2\n",
     ),
     // the job as it is; an equal row again, and a process named twice
     (1, 0, "", 0, ACCEPTED),
@@ -155,41 +162,56 @@ const CHANGES: [Change; 31] = [
     (18, 0, "\n  \n", 0, ACCEPTED),
 ];
 
+fn assert_change(rt: &impl Abort, alloc: Global, text: &[u8], change: &Change) -> Result<(), Fail> {
+    let new = changed(alloc, text, change)?;
+    assert_run(rt, alloc, SOLO, WHOLE, new, change.3, change.4)
+}
+
 #[test]
 fn documents_line_by_line(rt: HostRuntime) -> Result<(), Fail> {
-    let alloc = rt.alloc();
-    let text = joined(alloc, TWO, TWO_SCRIPTS)?;
+    let text = joined(rt.alloc(), TWO, TWO_SCRIPTS)?;
     for change in &CHANGES {
-        let new = changed(alloc, text.as_slice(), change)?;
-        assert_run(&rt, alloc, SOLO, WHOLE, new, change.3, change.4)?;
+        assert_change(&rt, rt.alloc(), text.as_slice(), change)?;
     }
-    // the first wrong line comes before the language
-    let open = joined(alloc, OPEN, "end\nend\n")?;
-    assert_run(
-        &rt,
-        alloc,
-        SOLO,
-        WHOLE,
-        open,
-        4,
-        "refused line 11: text after end\n",
-    )
+    Ok(())
+}
+
+#[test]
+fn the_first_wrong_line_comes_before_the_language(rt: HostRuntime) -> Result<(), Fail> {
+    let open = joined(rt.alloc(), OPEN, "end\nend\n")?;
+    let said = "refused line 11: text after end\n";
+    assert_run(&rt, rt.alloc(), SOLO, WHOLE, open, 4, said)
+}
+
+fn push_letters(alloc: Global, text: &mut String) -> Result<(), AllocError> {
+    for a in 0..32u32 {
+        text.push_str(format!(in alloc; "letter l{a} {}\n", a % 6)?.as_str())?;
+    }
+    Ok(())
+}
+
+fn push_rows(alloc: Global, text: &mut String) -> Result<(), AllocError> {
+    for cell in 0..1024u32 {
+        let (q, a) = (cell / 32, cell % 32);
+        text.push_str(format!(in alloc; "row {q} l{a} {}\n", (q % 32 + 1) % 32)?.as_str())?;
+    }
+    Ok(())
+}
+
+fn push_scripts(alloc: Global, text: &mut String) -> Result<(), AllocError> {
+    for p in 0..6u32 {
+        text.push_str(format!(in alloc; "script {p} l{p}\n")?.as_str())?;
+    }
+    Ok(())
 }
 
 /// Six processes, 32 letters of one process each in turn, and 32 states in a ring. State 6 accepts.
 fn at_the_limits(alloc: Global) -> Result<Vec<u8>, AllocError> {
     let mut text = String::from_str(alloc, "zla 1\nprocesses 6\n")?;
-    for a in 0..32u32 {
-        text.push_str(format!(in alloc; "letter l{a} {}\n", a % 6)?.as_str())?;
-    }
+    push_letters(alloc, &mut text)?;
     text.push_str("states 32\nstart 0\naccept 6\n")?;
-    for cell in 0..1024u32 {
-        let (q, a) = (cell / 32, cell % 32);
-        text.push_str(format!(in alloc; "row {q} l{a} {}\n", (q % 32 + 1) % 32)?.as_str())?;
-    }
-    for p in 0..6u32 {
-        text.push_str(format!(in alloc; "script {p} l{p}\n")?.as_str())?;
-    }
+    push_rows(alloc, &mut text)?;
+    push_scripts(alloc, &mut text)?;
     text.push_str("end\n")?;
     Vec::from_slice(alloc, text.as_bytes())
 }

@@ -213,7 +213,7 @@ fn whole_texts(rt: HostRuntime) -> Result<(), Fail> {
 const USAGE: &str = "usage: zla solo|run|check|locals|journal [--cache C], zla audit, zla gen N\n";
 
 /// Words for which nothing is read.
-const UNREAD: [Case; 12] = [
+const UNREAD: [Case; 10] = [
     (&[], "", "", 2, USAGE),
     (&["solo", "extra"], "", "", 2, USAGE),
     (&["--help"], "", "", 2, USAGE),
@@ -224,10 +224,8 @@ const UNREAD: [Case; 12] = [
     // forms of the commands on threads
     (&["run"], "", "", 2, USAGE),
     (&["journal", "--cache=1"], "", "", 2, USAGE),
-    // forms that aren't built
-    (&["--cache=4", "solo"], "", "", 10, "not built\n"),
+    // the form that isn't built
     (&["audit"], "", "", 10, "not built\n"),
-    (&["check", "--cache", "64"], "", "", 10, "not built\n"),
 ];
 
 /// Streams that take so many bytes a call, and of which these calls fail.

@@ -11,7 +11,7 @@ use Rattle.za_lang.specs.declared.fault.Refusal.{Refusal}
 use Rattle.za_lang.specs.declared.fault.Refusal.TheVariants as refusal
 use Rattle.za_lang.specs.Jobs.{JobData}
 use Rattle.za_lang.specs.Order.{head_of, next_place}
-use Rattle.za_lang.specs.Documents.{Said, processes_said, letters_said, states_said, start_said, accepts_said}
+use Rattle.za_lang.specs.Documents.{Said, names_said, letters_said, states_said, start_said, accepts_said}
 use Rattle.za_lang.specs.Documents.{rows_said, steps_said, acceptance_of, script_of_steps, own_fault}
 
 -- the line is refused so, unless memory was refused
@@ -23,13 +23,13 @@ IsWrong fault refusal.OutOfMemory = Unit {0}
 abbrev pub more_said : Said → Head → List (List ℕ) → Said
 more_said s head words = record {
   place = next_place s.place head;
-  processes = processes_said s.processes head words;
-  letters = s.letters ++ letters_said head words;
+  naming = record s.naming { names = names_said s.naming.version s.naming.names head words };
+  letters = s.letters ++ letters_said s.naming head words;
   states = states_said s.states head words;
   start = start_said s.start head words;
   accepts = s.accepts ++ accepts_said head words;
   rows = s.rows ++ rows_said s.letters head words;
-  steps = s.steps ++ steps_said s.letters head words;
+  steps = s.steps ++ steps_said s.naming s.letters head words;
 }
 
 abbrev pub more : Said → List (List ℕ) → Said
@@ -49,13 +49,14 @@ pub record AreAdded (alphabet : DistributedAlphabet) (old new : List (List ℕ))
 
 -- the job has what the lines say
 pub record Tells (job : JobData) (s : Said) : Type 0 where
-  pub processes : job.lang.alphabet.processes ≡ s.processes
+  pub naming : job.naming ≡ s.naming
+  pub processes : job.lang.alphabet.processes ≡ length s.naming.names
   pub letters : job.lang.alphabet.letters ≡ s.letters
   pub states : job.lang.states ≡ s.states
   pub start : job.lang.start ≡ s.start
   pub accepting : job.lang.accepting ≡ acceptance_of s.states s.accepts
   pub rows : AreEntered job.lang s.rows
-  pub steps : (p : ℕ) → p < s.processes → script_of job.scripts p ≡ script_of_steps s.steps p
+  pub steps : (p : ℕ) → p < length s.naming.names → script_of job.scripts p ≡ script_of_steps s.steps p
   pub total : total_of job.scripts ≡ length s.steps
 
 -- a line with this first word and these words after it is tested, and then the job has what it says

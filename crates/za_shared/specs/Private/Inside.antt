@@ -4,9 +4,9 @@ use Rattle.za_cache.specs.Lines.{Lines, LineKey}
 use Rattle.za_shared.specs.Records.{Records, AreRecords, bound}
 use Rattle.za_shared.specs.declared.shared.SharedLocals.TheInside.{Inside}
 
-abbrev pub lines_in : Option Lines → List (LineKey × ℕ)
-lines_in None = []
-lines_in (Some rows) = rows.lines
+abbrev pub lines_of_rows : Option Lines → List (LineKey × ℕ)
+lines_of_rows None = []
+lines_of_rows (Some rows) = rows.lines
 
 abbrev pub cache_in : Option Lines → ℕ
 cache_in None = 0
@@ -23,7 +23,7 @@ records_in inside = record {
   shelf = inside.shelf;
   own = own_in inside.own;
   keys = inside.keys.items;
-  lines = lines_in inside.rows;
+  lines = lines_of_rows inside.rows;
   spares = inside.spares.items;
 }
 

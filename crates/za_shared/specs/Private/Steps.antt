@@ -6,7 +6,9 @@ use Rattle.za_alpha.specs.Alphabet.{loc_of}
 use Rattle.za_records.specs.Shelf.{Shelf, count, live}
 use Rattle.za_cache.specs.declared.rows.Kept.{Kept}
 use Rattle.za_cache.specs.declared.rows.Kept.TheVariants.{Stored, Replaced, Refused}
+use Rattle.za_dfa.specs.Tables.{CompleteDfa}
 use Rattle.za_local.specs.Locals.{LocalState, HasShape}
+use Rattle.za_local.specs.Benches.{LocalStates}
 use Rattle.za_shared.specs.Holders.{no_local, value, values_at, is_named}
 use Rattle.za_shared.specs.Records.{Records, IsTransition, IsRemembered}
 
@@ -15,8 +17,8 @@ abbrev pub one : ℕ → ℕ → ℕ
 one key k = cond (key == k) 1 0
 
 -- 1 for a key that the line names
-abbrev pub named : List ℕ → ℕ → ℕ → ℕ
-named inputs output k = cond (is_named inputs output k) 1 0
+abbrev pub named_by_line : List ℕ → ℕ → ℕ → ℕ
+named_by_line inputs output k = cond (is_named inputs output k) 1 0
 
 -- 1 for a key that is not the output and stands among the first i inputs
 abbrev pub named_before : List ℕ → ℕ → ℕ → ℕ → ℕ
@@ -25,8 +27,8 @@ named_before inputs output i k = cond (has (take i inputs) k && not (output == k
 -- 1 for a key that the line names which rows hand back
 abbrev pub named_by : Kept → ℕ → ℕ
 named_by Stored k = 0
-named_by (Replaced line) k = named line.inputs.items line.output k
-named_by (Refused line) k = named line.inputs.items line.output k
+named_by (Replaced line) k = named_by_line line.inputs.items line.output k
+named_by (Refused line) k = named_by_line line.inputs.items line.output k
 
 -- the keys have so many holders more, and their values stay
 pub record HaveMore (old new : Shelf LocalState) (more : ℕ → ℕ) : Type 0 where
@@ -57,8 +59,8 @@ pub record HaveChanged (old new : Shelf LocalState) (before after : List LocalSt
       All (HasShape n m) before → All (HasShape n m) after
 
 -- these processes have this key, as far as p
-abbrev pub given : List ℕ → ℕ → ℕ → List ℕ → ℕ → ℕ
-given ps key p keys q = cond (nat_lt q p && has ps q) key (slice_index keys q)
+abbrev pub key_given : List ℕ → ℕ → ℕ → List ℕ → ℕ → ℕ
+key_given ps key p keys q = cond (nat_lt q p && has ps q) key (slice_index keys q)
 
 -- the last of a list
 abbrev pub last_of : List LocalState → LocalState
@@ -93,3 +95,9 @@ pub record HasObtained (old new : Records) (a : ℕ) : Type 0 where
   pub values : (k : ℕ) → 0 < count old.shelf k → 0 < count new.shelf k → value new.shelf k ≡ value old.shelf k
   pub lines :
       IsRemembered old.cache old.lines new.lines a (map (λ p. slice_index old.keys p) (loc_of old.dfa.alphabet a)) key
+
+-- what was made elsewhere is the transition of the local states on its bench, which is for this automaton
+pub record IsMade (dfa : CompleteDfa) (a : ℕ) (bench : LocalStates) (made : LocalState) : Type 0 where
+  pub processes : bench.processes ≡ dfa.alphabet.processes
+  pub states : bench.states ≡ dfa.states
+  pub transition : IsTransition dfa a bench.locals made

@@ -1,5 +1,5 @@
 -- What the fields of a table and of one that has ended are.
-use Rattle.std.specs.Prelude.{◌≡◌, ℕ, ◌<◌, List, length, slice_index}
+use Rattle.std.specs.Prelude.{◌≡◌, ℕ, ◌<◌, length, slice_index}
 use Rattle.za_alpha.specs.Letters.{numbers}
 use Rattle.za_dfa.specs.Tables.{automaton_of}
 use Rattle.za_alpha.specs.Alphabet.{loc_of}

@@ -1,5 +1,6 @@
 -- The lists of a table: at the start, after an event, and what they are for a machine.
-use Rattle.std.specs.Prelude.{◌≡◌, ℕ, ◌+◌, ◌<◌, ◌≤◌, [], ◌∷◌, ◌++◌, List, Some, None, false, length, replicate, cond, slice_index, slice_index_or, vec_capacity, if◌then◌else◌}
+use Rattle.std.specs.Prelude.{◌≡◌, ℕ, ◌+◌, ◌<◌, ◌≤◌, [], ◌∷◌, ◌++◌, List, Some, None, false, length, replicate}
+use Rattle.std.specs.Prelude.{cond, slice_index, slice_index_or, vec_capacity, if◌then◌else◌}
 use Rattle.za_alpha.specs.Words.{has}
 use Rattle.za_alpha.specs.Letters.{numbers}
 use Rattle.za_order.specs.Labels.{label}

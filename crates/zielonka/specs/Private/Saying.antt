@@ -1,18 +1,73 @@
--- What saying a text does, and what a command did that reads the source.
-use Rattle.std.specs.Prelude.{◌≡◌, ℕ, ◌<◌, List, length, take, Option}
-use Rattle.std.specs.Io.KnownBytes.{Appends}
-use Rattle.za_base.specs.Fault.{Rises}
+-- How a call begins and ends, and what is made before it is written.
+use Rattle.std.specs.Prelude.{◌≡◌, ℕ, List, false, None, Option, Result, MatchResult}
+use Rattle.za_alpha.specs.declared.fault.OutOfMemory.{OutOfMemory}
 use Rattle.za_base.specs.Ends.{Ends}
+use Rattle.za_lang.specs.Answers.{data_of}
+use Rattle.za_lang.specs.Jobs.{JobData, IsJob}
+use Rattle.za_lang.specs.Documents.{fault_of, job_of}
+use Rattle.za_min.specs.Minimal.{IsMinimalOf}
+use Rattle.za_table.specs.Ends.{EndedState}
+use Rattle.zielonka.specs.Output.{IsDueFor, IsOutput, given}
+use Rattle.zielonka.specs.Run.{HasRun, HasSaid, ReadAll, WroteNothing}
+use Rattle.zielonka.specs.Shown.{runs_scripts, shown_as, IsClosed, AreClosedJob, IsMadeBy, IsShown}
+use Rattle.zielonka.specs.declared.judging.ClosedJob.{ClosedJob}
+use Rattle.zielonka.specs.declared.judging.Judged.{Judged}
+use Rattle.zielonka.specs.declared.judging.Judged.TheVariants.{Refused, Ready}
+use Rattle.zielonka.specs.declared.due.Output.{Output}
 use Rattle.zielonka.specs.declared.request.Command.{Command}
-use Rattle.zielonka.specs.Run.{AskFor, HasRun}
+use Rattle.zielonka.specs.declared.request.Request.{Request}
+use Rattle.zielonka.specs.declared.request.Request.TheVariants.{Answer as Asks}
+use Rattle.zielonka.specs.declared.run.Begun.{Begun}
+use Rattle.zielonka.specs.declared.run.Begun.TheVariants.{Over, Asked}
+use Rattle.zielonka.specs.declared.status.Outcome.{Outcome}
+use Rattle.zielonka.specs.declared.status.Shown.{Shown}
+use Rattle.zielonka.specs.declared.status.Shown.TheVariants.{Nothing}
 
--- a text was written whole, no write failed, and the status is the one given; or a proper prefix of it, and then the
--- sink's count of faults rose, and the status is 7
-pub data HasSaid (status : ℕ) (text : List ℕ) (written now : Option (List ℕ)) (before after : ℕ) : ℕ → Type 0 where
-  Whole : Appends written now text → after ≡ before → HasSaid status text written now before after status
-  Part : (k : ℕ) → k < length text → Appends written now (take k text) → Rises before after →
-      HasSaid status text written now before after 7
+-- it is a job, its language is trace-closed, and the automaton is the minimal one of its language
+pub record IsCompiled (it : ClosedJob) : Type 0 where
+  pub job : IsJob (data_of it.job)
+  pub minimal : IsMinimalOf it.closed (given (data_of it.job))
+  pub closed : IsClosed (data_of it.job)
 
--- what a command did that reads the source, by the status that it ended with
-abbrev pub HasAnswered : Command → Ends → Ends → ℕ → Type 0
-HasAnswered command old new status = (words : List (List ℕ)) → AskFor words command → HasRun words old new status
+-- what a job comes to: it is answered by its two words whatever the command is, or it is ready
+abbrev pub IsJudged : JobData → Judged → Type 0
+IsJudged job (Refused said) =
+    ((command : Command) → IsDueFor command job said.status said.text.items) × ¬ IsClosed job
+IsJudged job (Ready it) = IsCompiled it × (data_of it.job ≡ job)
+
+-- what bytes come to: they are refused whatever the command is, or they are a job that is ready
+abbrev pub AreJudged : List ℕ → Judged → Type 0
+AreJudged bytes (Refused said) =
+    ((command : Command) → IsOutput command bytes said.status said.text.items) × ¬ AreClosedJob bytes
+AreJudged bytes (Ready it) = IsCompiled it × (fault_of bytes ≡ None) × (data_of it.job ≡ job_of bytes)
+
+-- of what the text for a job is made: of a finished run, or of none, where no scripts are to be run
+pub data IsMade (command : Command) (job : JobData) (text : List ℕ) : Shown → Type 0 where
+  OfRun : (run : EndedState) → IsMadeBy command job text run → IsMade command job text (shown_as command run)
+  OfNone : runs_scripts command ≡ false → IsMade command job text Nothing
+
+-- what a call did of which this was asked, and how it ended
+pub record HasEnded (asked : Request) (old new : Ends) (outcome : Outcome) : Type 0 where
+  pub ran : HasRun asked old new outcome.status.0
+  pub shown : IsShown asked old new outcome.status.0 outcome.shown
+
+-- a command is asked for, all bytes were read, and they are a job that is ready; nothing was written
+pub record IsAsked (asked : Request) (old new : Ends) (command : Command) (it : ClosedJob) : Type 0 where
+  pub asks : asked ≡ Asks command
+  pub bytes : List ℕ
+  pub all : ReadAll old new bytes
+  pub nothing : WroteNothing old new
+  pub is : AreJudged bytes (Ready it)
+
+-- how a call begins: it is over, or a job is to be answered
+abbrev pub HasBegun : Request → Ends → Ends → Begun → Type 0
+HasBegun asked old new (Over outcome) = HasEnded asked old new outcome
+HasBegun asked old new (Asked command it) = IsAsked asked old new command it
+
+-- how an answer is told: what was made is said and shown, and where memory was refused nothing is
+abbrev pub HasTold : Result Output OutOfMemory → Option (List ℕ) → Option (List ℕ) → ℕ → ℕ → Outcome → Type 0
+HasTold made written now before after outcome =
+    MatchResult made
+    (λ output. HasSaid output.said.status output.said.text.items written now before after outcome.status.0
+    × (outcome.shown ≡ output.shown))
+    (λ none. (outcome.status.0 ≡ 8) × (outcome.shown ≡ Nothing) × (now ≡ written) × (after ≡ before))

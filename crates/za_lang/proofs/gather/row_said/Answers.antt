@@ -7,7 +7,7 @@ use Rattle.za_lang.proofs.gather.row_said.Goals as goal
 
 pub returns-clause-row : goal.returns-clause-row
 returns-clause-row c =
-    let letters = c.args.lang.now.alphabet.letters in
+    let letters = c.args.lang.now.table.alphabet.letters in
     let from : numeral_value c.in-Some.from.now ≡ Some c.in_ok-from.from = grind (arith, common_steps) in
     let to : numeral_value c.in-Some-next-2.to.now ≡ Some c.in_ok-to.to = grind (arith, common_steps) in
     let found : place_of letters c.in-Some-next.name.now ≡ Some c.in-Some-find.letter.0 = grind (arith, common_steps) in (

@@ -1,15 +1,16 @@
 use Rattle.std.proofs.Common.{length, take}
 use Rattle.za_text.specs.Lines.{lines_of}
-use Rattle.za_lang.specs.Documents.{said}
-use Rattle.za_lang.specs.Private.Reading.{IsReading, Keeps}
+use Rattle.za_lang.specs.Documents.{said, version_of}
+use Rattle.za_lang.specs.Private.Reading.{IsReading, Keeps, Awaits}
 use Rattle.za_lang.proofs.Faults.{AreRead}
 use Rattle.za_lang.proofs.reading.read_job.Given as goal
 
 abbrev pub invariant-lines : goal.invariant-lines
 invariant-lines l = record {
-  read : AreRead (lines_of l.bytes) l.lines.passed (lines_of l.lines.rest);
+  read : AreRead (version_of (lines_of l.bytes)) (lines_of l.bytes) l.lines.passed (lines_of l.lines.rest);
   whole : IsReading l.reading;
-  shows : Keeps l.reading (said (take l.lines.passed (lines_of l.bytes)));
+  shows : Keeps l.reading (said (version_of (lines_of l.bytes)) (take l.lines.passed (lines_of l.bytes)));
+  awaits : Awaits l.reading (version_of (lines_of l.lines.rest)) (version_of (lines_of l.bytes));
 }
 
 abbrev pub decreases-lines : goal.decreases-lines

@@ -8,7 +8,7 @@ use Rattle.za_print.proofs.print.push_accepting.Goals as goal
 
 pub loop-q-preserved : goal.loop-q-preserved
 loop-q-preserved c =
-    let test = is_accepting c.args.lang.now in
+    let test = is_accepting c.args.lang.now.table in
     let q = c.loop-q.q in
     one-more _ _ _ _ _ _ c.loop-q.invariant
     (c.in_ok-push_number_if.ensures.ok ∙ ap (λ b. c.loop-q.text.items ++ cond b (spaced (decimal q ∷ [])) []) c.accepting.ensures)
@@ -16,5 +16,5 @@ loop-q-preserved c =
 
 pub returns : goal.returns
 returns c =
-    let all : c.loop-q.q ≡ c.args.lang.now.states = omega arith in
-    c.loop-q.invariant ∙ ap (λ n. c.args.text.now.items ++ spaced (map decimal (filter (is_accepting c.args.lang.now) (range_with_len 0 n)))) all
+    let all : c.loop-q.q ≡ c.args.lang.now.table.states = omega arith in
+    c.loop-q.invariant ∙ ap (λ n. c.args.text.now.items ++ spaced (map decimal (filter (is_accepting c.args.lang.now.table) (range_with_len 0 n)))) all

@@ -6,4 +6,4 @@ use Rattle.za_print.proofs.print.push_accepting.Given as goal
 
 -- the accepting states so far
 abbrev pub invariant-loop-q : goal.invariant-loop-q
-invariant-loop-q l = l.text.items ≡ l.initial.text.items ++ spaced (map decimal (filter (is_accepting l.lang) (range_with_len 0 l.q)))
+invariant-loop-q l = l.text.items ≡ l.initial.text.items ++ spaced (map decimal (filter (is_accepting l.lang.table) (range_with_len 0 l.q)))

@@ -5,4 +5,4 @@ use Rattle.za_print.proofs.print.push_letters.Given as goal
 
 -- the lines of the letters so far
 abbrev pub invariant-loop-a : goal.invariant-loop-a
-invariant-loop-a l = l.text.items ≡ l.initial.text.items ++ text_of (map letter_line (take l.a l.alphabet.letters))
+invariant-loop-a l = l.text.items ≡ l.initial.text.items ++ text_of (map (letter_line l.names) (take l.a l.alphabet.letters))

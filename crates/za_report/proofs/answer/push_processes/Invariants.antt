@@ -6,4 +6,4 @@ use Rattle.za_report.proofs.answer.push_processes.Given as goal
 
 -- the lines of the processes so far
 abbrev pub invariant-loop-p : goal.invariant-loop-p
-invariant-loop-p l = l.text.items ≡ l.initial.text.items ++ text_of (map (process_line l.alphabet l.scripts l.woven.word) (range_with_len 0 l.p))
+invariant-loop-p l = l.text.items ≡ l.initial.text.items ++ text_of (map (process_line l.names l.alphabet l.scripts l.woven.word) (range_with_len 0 l.p))

@@ -1,4 +1,4 @@
-use Rattle.std.proofs.Common.{◌≡◌, ℕ, ap, subst, sym, ◌∙◌, [], ◌∷◌, ◌++◌, List, length}
+use Rattle.std.proofs.Common.{◌≡◌, ℕ, ap, subst, ◌∙◌, [], ◌∷◌, ◌++◌, List, length}
 use Rattle.std.proofs.lemmas.List.{length-map}
 use Rattle.za_alpha.specs.declared.word.Letter.{Letter}
 use Rattle.za_alpha.specs.Letters.{numbers}

@@ -1,10 +1,9 @@
-use Rattle.std.proofs.Common.{◌≡◌, ℕ, ◌<◌, [], ◌∷◌, ◌++◌, List, true, false, length, sym, ap, subst, ◌∙◌, arith}
+use Rattle.std.proofs.Common.{◌≡◌, ℕ, ◌<◌, [], ◌∷◌, ◌++◌, List, true, false, length, sym, ap, subst, ◌∙◌}
 use Rattle.za_alpha.specs.Words.{has}
 use Rattle.za_alpha.specs.Procs.{members}
 use Rattle.za_alpha.specs.Alphabet.{DistributedAlphabet, loc_of, procs_at}
 use Rattle.za_dfa.specs.Tables.{CompleteDfa}
-use Rattle.za_local.specs.Locals.{LocalState, local_after, AreAllLocalsAfter}
-use Rattle.za_shared.specs.Records.{locals_of}
+use Rattle.za_local.specs.Locals.{local_after}
 use Rattle.za_table.specs.Tables.{label_at}
 use Rattle.za_table.proofs.labels.latest_label.Goals as goal
 use Rattle.za_table.proofs.labels.latest_label.Goals.{After-loc-participants}

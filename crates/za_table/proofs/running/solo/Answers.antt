@@ -1,4 +1,4 @@
-use Rattle.std.proofs.Common.{◌≡◌, ℕ, [], ◌++◌, List, length, refl, ap, ◌∙◌}
+use Rattle.std.proofs.Common.{ℕ, ◌++◌, List, length, ap, ◌∙◌}
 use Rattle.za_alpha.specs.Alphabet.{loc_of}
 use Rattle.za_script.specs.Scripts.{weave}
 use Rattle.za_script.specs.ScriptLists.{script_of}
@@ -15,6 +15,6 @@ on g w = w ++ weave (loc_of g.dfa.alphabet) (length g.dfa.alphabet.letters) g.df
 pub returns-clause-word : goal.returns-clause-word
 returns-clause-word c =
     let t = c.in_ok-table.table in
-    ap (λ (e : EndedState). e.state.journal) c.into_ended.ensures ∙ c.finish.ensures.journal
+    ap (λ (e : EndedState). e.state.journal) c.into_ended.ensures.value ∙ c.finish.ensures.journal
     ∙ ap (λ (g : Given). on g t.state.journal) c.in_ok-table.ensures.given
     ∙ ap (λ (s : State). on (record { dfa = c.args.closed; scripts = c.args.scripts }) s.journal) c.in_ok-table.ensures.state

@@ -1,4 +1,4 @@
-use Rattle.zielonka.specs.Private.Saying.{Whole, Part}
+use Rattle.zielonka.specs.Run.{Whole, Part}
 use Rattle.zielonka.proofs.run.say.Goals as goal
 
 pub returns-in-Ok : goal.returns-in-Ok

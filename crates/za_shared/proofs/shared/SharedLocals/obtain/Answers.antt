@@ -40,17 +40,17 @@ returns-then-recall-clause-obtained c =
     (found.3 ∙ ap (λ i. record r { shelf = c.recall.new.self.shelf; own = found.0 ∷ []; lines = promoted (is_key c.args.a.0 i) r.lines }) (same k))
 
 -- the last spare record is the transition of the inputs
-first : (c : After-as_slice-2) → c.compute.new.self ≡ record c.args.self.now { spares = c.compute.new.self.spares }
-first c = c.compute.ensures.rest ∙ ap (λ (x : Records). record x { spares = c.compute.new.self.spares }) c.if-recall.ensures.1
+first : (c : After-as_slice-2) → c.take_or_compute.new.self ≡ record c.args.self.now { spares = c.take_or_compute.new.self.spares }
+first c = c.take_or_compute.ensures.rest ∙ ap (λ (x : Records). record x { spares = c.take_or_compute.new.self.spares }) c.if-recall.ensures.1
 
 made : (c : After-as_slice-2) →
     IsTransition c.args.self.now.dfa c.args.a.0 (values_at c.args.self.now.shelf c.args.self.now.keys (loc_of c.args.self.now.dfa.alphabet c.args.a.0))
-    (last_of c.compute.new.self.spares)
+    (last_of c.take_or_compute.new.self.spares)
 made c =
-    subst (λ ps. IsTransition c.args.self.now.dfa c.args.a.0 (values_at c.args.self.now.shelf c.args.self.now.keys ps) (last_of c.compute.new.self.spares))
-    c.requires.participants
-    (subst (λ (x : Records). IsTransition x.dfa c.args.a.0 (values_at x.shelf x.keys (members c.args.participants)) (last_of c.compute.new.self.spares))
-    c.if-recall.ensures.1 c.compute.ensures.transition)
+    subst (λ ps. IsTransition c.args.self.now.dfa c.args.a.0 (values_at c.args.self.now.shelf c.args.self.now.keys ps)
+    (last_of c.take_or_compute.new.self.spares)) c.requires.participants
+    (subst (λ (x : Records). IsTransition x.dfa c.args.a.0 (values_at x.shelf x.keys (members c.args.participants))
+    (last_of c.take_or_compute.new.self.spares)) c.if-recall.ensures.1 c.take_or_compute.ensures.transition)
 
 again : (c : After-as_slice-2) →
     c.as_slice-2.result.now ≡ inputs c.args.self.now (whole (goal.at.After-as_slice-2 c).After-as_slice) c.args.a.0 c.requires.letter
@@ -60,18 +60,19 @@ pub enter-requires-clause-few : goal.enter-requires-clause-few
 enter-requires-clause-few c =
     let k = (goal.at.After-as_slice-2 c).After-as_slice in
     let e = ap length (again c) in
-    let f = made-few c.args.self.now (whole k) c.args.a.0 c.requires.letter c.compute.new.self c.compute.new.self (first c) (made c) in omega arith
+    let f = made-few c.args.self.now (whole k) c.args.a.0 c.requires.letter c.take_or_compute.new.self c.take_or_compute.new.self (first c) (made c) in
+    omega arith
 
 pub enter-requires-clause-live : goal.enter-requires-clause-live
 enter-requires-clause-live c = λ n h.
     let k = (goal.at.After-as_slice-2 c).After-as_slice in
-    made-live c.args.self.now (whole k) c.args.a.0 c.requires.letter c.compute.new.self c.compute.new.self (first c) (made c) n
+    made-live c.args.self.now (whole k) c.args.a.0 c.requires.letter c.take_or_compute.new.self c.take_or_compute.new.self (first c) (made c) n
     (subst (λ i. has i n ≡ true) (again c) h)
 
 pub enter-requires-clause-transition : goal.enter-requires-clause-transition
 enter-requires-clause-transition c =
     let k = (goal.at.After-as_slice-2 c).After-as_slice in
-    let s = c.compute.new.self in
+    let s = c.take_or_compute.new.self in
     subst (λ i. IsTransition s.dfa c.args.a.0 (map (value s.shelf) i) (last_of s.spares)) (sym (again c))
     (made-transition c.args.self.now (whole k) c.args.a.0 c.requires.letter s s (first c) (made c))
 
@@ -79,5 +80,5 @@ pub returns-clause-obtained : goal.returns-clause-obtained
 returns-clause-obtained c =
     let j = (goal.at.returns-clause-obtained c).After-as_slice-2 in
     let k = (goal.at.returns-clause-obtained c).After-as_slice in
-    made-obtained c.args.self.now (whole k) c.args.a.0 c.requires.letter c.compute.new.self c.enter.new.self (first j) (made j)
-    (subst (HasEntered c.compute.new.self c.enter.new.self c.args.a.0) (again j) c.enter.ensures.entered)
+    made-obtained c.args.self.now (whole k) c.args.a.0 c.requires.letter c.take_or_compute.new.self c.enter.new.self (first j) (made j)
+    (subst (HasEntered c.take_or_compute.new.self c.enter.new.self c.args.a.0) (again j) c.enter.ensures.entered)

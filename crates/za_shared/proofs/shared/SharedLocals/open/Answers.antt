@@ -6,7 +6,7 @@ use Rattle.za_local.specs.Benches.{LocalStates}
 use Rattle.za_cache.specs.Lines.{LineKey}
 use Rattle.za_records.specs.Shelf.{Changes}
 use Rattle.za_shared.specs.Records.{AreOpened, bound}
-use Rattle.za_shared.specs.Private.Inside.{lines_in, cache_in}
+use Rattle.za_shared.specs.Private.Inside.{lines_of_rows, cache_in}
 use Rattle.za_shared.proofs.Openings.{opened-all}
 use Rattle.za_shared.proofs.shared.SharedLocals.open.Goals as goal
 use Rattle.za_shared.proofs.shared.SharedLocals.open.Goals.{In_ok-bench}
@@ -23,7 +23,7 @@ all : (c : In_ok-bench) → AreOpened c.args.closed c.args.cache
       shelf = c.put-key.new.self;
       own = [];
       keys = c.in_ok-keys.keys.items;
-      lines = lines_in c.in_ok-rows.rows;
+      lines = lines_of_rows c.in_ok-rows.rows;
       spares = c.in_ok-spares.spares.items;
     })
 all c =

@@ -5,7 +5,7 @@ use Rattle.std.specs.Map.{lookup}
 use Rattle.lru.specs.LruCache.{promoted}
 use Rattle.za_cache.specs.Lines.{Lines, LineKey, is_key}
 use Rattle.za_shared.specs.Records.{Records, IsLine, bound}
-use Rattle.za_shared.specs.Private.Inside.{AreRecordsInside, records_in, lines_in, cache_in}
+use Rattle.za_shared.specs.Private.Inside.{AreRecordsInside, records_in, lines_of_rows, cache_in}
 use Rattle.za_shared.proofs.Carrying.{carried, names, count-one}
 use Rattle.za_shared.proofs.LineLists.{promoted-none, split-found, count-promoted, length-promoted, all-promoted}
 use Rattle.za_shared.proofs.Steps.{line-live, more-old}
@@ -31,7 +31,7 @@ pub returns-in_default-find : goal.returns-in_default-find
 returns-in_default-find c =
     let i = c.self.inside in
     let test = is_key c.args.a.0 c.args.inputs.now in (
-      ap (λ (r : Records). lookup test r.lines) (sym c.self.view_is) ∙ ap (λ (o : Option Lines). lookup test (lines_in o)) c.in-Some.is
+      ap (λ (r : Records). lookup test r.lines) (sym c.self.view_is) ∙ ap (λ (o : Option Lines). lookup test (lines_of_rows o)) c.in-Some.is
           ∙ sym c.find.ensures.found ∙ c.in_default-find.is,
       ap (λ (o : Option Lines). records_in
           (record { closed = i.closed; shelf = i.shelf; spares = i.spares; own = i.own; keys = i.keys; rows = o; bench = i.bench })) (same c) ∙ c.self.view_is,
@@ -41,7 +41,7 @@ pub hold-requires-clause-live : goal.hold-requires-clause-live
 hold-requires-clause-live c =
     let test = is_key c.args.a.0 c.args.inputs.now in
     line-live (records_in c.self.inside) c.self.invariant.records test c.in-Some-find.key
-    (ap (λ (o : Option Lines). lookup test (lines_in o)) c.in-Some.is ∙ sym c.find.ensures.found ∙ c.in-Some-find.is)
+    (ap (λ (o : Option Lines). lookup test (lines_of_rows o)) c.in-Some.is ∙ sym c.find.ensures.found ∙ c.in-Some-find.is)
 
 pub invariant_of-self-2 : goal.invariant_of-self-2
 invariant_of-self-2 c =
@@ -49,11 +49,11 @@ invariant_of-self-2 c =
     let ok = c.self.invariant.records in
     let key : ℕ = c.in-Some-find.key in
     let test = is_key c.args.a.0 c.args.inputs.now in
-    let found : lookup test r.lines ≡ Some key = ap (λ (o : Option Lines). lookup test (lines_in o)) c.in-Some.is ∙ sym c.find.ensures.found
+    let found : lookup test r.lines ≡ Some key = ap (λ (o : Option Lines). lookup test (lines_of_rows o)) c.in-Some.is ∙ sym c.find.ensures.found
     ∙ c.in-Some-find.is in
     let s = split-found test r.lines key found in
     let now : Lines = c.find.new.self in
-    let before : r.lines ≡ c.in-Some.rows.lines = ap lines_in c.in-Some.is in
+    let before : r.lines ≡ c.in-Some.rows.lines = ap lines_of_rows c.in-Some.is in
     let lines : now.lines ≡ promoted test r.lines = ap (λ (l : Lines). l.lines) c.find.ensures.lines ∙ ap (promoted test) (sym before) in
     let cache : now.capacity ≡ r.cache = ap (λ (l : Lines). l.capacity) c.find.ensures.lines ∙ sym (ap cache_in c.in-Some.is) in
     let free : r.own ≡ [] = ap (λ (x : Records). x.own) c.self.view_is ∙ c.requires.free in

@@ -6,7 +6,7 @@ use Rattle.za_records.specs.Shelf.{count}
 use Rattle.za_cache.specs.Lines.{line_key}
 use Rattle.za_shared.specs.Holders.{value, is_named}
 use Rattle.za_shared.specs.Records.{Records, IsLine, IsTransition, bound}
-use Rattle.za_shared.specs.Private.Inside.{records_in, lines_in, cache_in}
+use Rattle.za_shared.specs.Private.Inside.{records_in, lines_of_rows, cache_in}
 use Rattle.za_shared.proofs.Carrying.{count-one}
 use Rattle.za_shared.proofs.Remembering.{remembered, kept-few}
 use Rattle.za_shared.proofs.shared.SharedLocals.remember.Goals as goal
@@ -20,7 +20,7 @@ invariant_of-self-2 c =
     let output : ℕ = c.args.output in
     let now = c.args.self.now in
     let same : r ≡ now = c.self.view_is in
-    let rows : r.lines ≡ c.in-Some.rows.lines = ap lines_in c.in-Some.is in
+    let rows : r.lines ≡ c.in-Some.rows.lines = ap lines_of_rows c.in-Some.is in
     let cache : r.cache ≡ c.in-Some.rows.capacity = ap cache_in c.in-Some.is in
     let held : r.own ≡ output ∷ [] = ap (λ (x : Records). x.own) same ∙ c.requires.held in
     let live : (k : ℕ) → is_named inputs output k ≡ true → 0 < count r.shelf k = λ k n. elim (or_cases (output == k) (has inputs k) n) [

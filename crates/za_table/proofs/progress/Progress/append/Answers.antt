@@ -1,9 +1,9 @@
-use Rattle.std.proofs.Common.{◌≡◌, ℕ, ◌<◌, ◌+◌, ◌&&◌, not, Bool, List, Option, Some, None, arith, cond, length, slice_index, slice_index_or, vec_capacity, refl, ap, subst, ◌∙◌}
+use Rattle.std.proofs.Common.{◌≡◌, ℕ, ◌<◌, ◌+◌, ◌&&◌, not, Bool, List, Option, Some, None, arith, cond, length, slice_index, slice_index_or, refl, ap, subst, ◌∙◌}
 use Rattle.std.specs.Prelude.{if◌then◌else◌}
 use Rattle.za_alpha.specs.Words.{has}
 use Rattle.za_alpha.specs.Procs.{members}
 use Rattle.za_machine.specs.Machine.{is_in}
-use Rattle.za_table.proofs.Vectors.{written}
+use Rattle.za_shared.proofs.Vectors.{written}
 use Rattle.za_table.proofs.Entries.{without_is, journal-more}
 use Rattle.za_table.proofs.progress.Progress.append.Goals as goal
 

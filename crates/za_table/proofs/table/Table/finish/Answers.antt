@@ -1,4 +1,4 @@
-use Rattle.std.proofs.Common.{arith, length, sym, ◌≡◌, ◌≢◌, ◌∙◌, ◌-◌}
+use Rattle.std.proofs.Common.{arith, length, sym, ◌∙◌, ◌-◌}
 use Rattle.za_alpha.specs.Alphabet.{loc_of}
 use Rattle.za_script.specs.ScriptLists.{script_of}
 use Rattle.za_script.specs.Scripts.{total}

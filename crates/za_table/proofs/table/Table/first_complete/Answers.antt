@@ -1,4 +1,4 @@
-use Rattle.std.proofs.Common.{◌≡◌, ◌<◌, length, arith}
+use Rattle.std.proofs.Common.{length, arith}
 use Rattle.za_machine.specs.Machine.{is_complete}
 use Rattle.za_table.specs.Tables.{machine_of}
 use Rattle.za_table.proofs.Keeping.{whole}

@@ -1,4 +1,4 @@
-use Rattle.std.proofs.Common.{◌≡◌, ◌<◌, ◌≤◌, true, false, sym, subst, ◌∙◌, ap, arith}
+use Rattle.std.proofs.Common.{◌≡◌, true, false, sym, subst, ◌∙◌, arith}
 use Rattle.za_machine.specs.Machine.{is_complete}
 use Rattle.za_table.specs.Tables.{machine_of}
 use Rattle.za_table.proofs.Waiting.{complete-next, found-is, found-none}

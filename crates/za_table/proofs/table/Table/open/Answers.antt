@@ -1,12 +1,10 @@
-use Rattle.std.proofs.Common.{◌≡◌, ℕ, ◌≤◌, List, Option, None, replicate, sym, ap, subst, ◌∙◌, arith, length, refl}
+use Rattle.std.proofs.Common.{◌≡◌, ℕ, ◌≤◌, Option, None, replicate, sym, ap, subst, ◌∙◌, arith, length, refl}
 use Rattle.za_alpha.specs.Alphabet.{DistributedAlphabet}
 use Rattle.za_dfa.specs.Tables.{CompleteDfa}
 use Rattle.za_script.specs.Scripts.{total}
 use Rattle.za_script.specs.ScriptLists.{script_of}
-use Rattle.za_machine.specs.Machine.{initial}
 use Rattle.za_machine.specs.Hands.{no_hands}
 use Rattle.za_table.specs.Tables.{Given, machine_of}
-use Rattle.za_table.specs.Private.Inside.{given_in, table_in}
 use Rattle.za_table.specs.Private.Steps.{IsProgress}
 use Rattle.za_table.proofs.Beginnings.{started-state, started-progress, opens}
 use Rattle.za_table.proofs.table.Table.open.Goals as goal

@@ -1,4 +1,4 @@
-use Rattle.std.proofs.Common.{◌≡◌, ℕ, ◌<◌, sym, ap, subst, ◌∙◌}
+use Rattle.std.proofs.Common.{ℕ, ◌<◌, sym, ap, subst, ◌∙◌}
 use Rattle.za_dfa.specs.Tables.{CompleteDfa, automaton_of}
 use Rattle.za_dfa.proofs.TableLemmas.{total_of_complete}
 use Rattle.za_dfa.proofs.Diamonds.{walk-below}

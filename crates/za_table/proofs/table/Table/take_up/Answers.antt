@@ -1,4 +1,4 @@
-use Rattle.std.proofs.Common.{ap, sym, subst, ◌≡◌, ℕ, ◌∙◌, List, None}
+use Rattle.std.proofs.Common.{ap, sym, subst, ◌≡◌, ℕ, ◌∙◌, List}
 use Rattle.za_alpha.specs.Procs.{members}
 use Rattle.za_alpha.specs.Alphabet.{loc_of}
 use Rattle.za_local.specs.Locals.{AreLocalsAfter}

@@ -1,0 +1,95 @@
+ghost use Rattle.std.specs.Prelude.{IfOk};
+ghost use Rattle.za_lang.specs.Answers.{data_of};
+ghost use Rattle.za_lang.specs.Jobs.{IsJob};
+
+use super::*;
+use std::alloc::Global;
+use std::test::Fail;
+use za_alpha::Letter;
+use za_claim::{Audited, read_audited};
+use za_closure::close;
+use za_script::Answer;
+
+/// Two processes with a letter each and one that they share. Words with an even number of `a` are
+/// accepted.
+const JOB: &str = "zla 1\nprocesses 2\nletter a 0\nletter b 1\nletter c 0 1\nstates 2\nstart 0\n\
+    accept 0\nrow 0 a 1\nrow 0 b 0\nrow 0 c 0\nrow 1 a 0\nrow 1 b 1\nrow 1 c 1\n";
+
+const WHOLE: &str = "script 0 a c a\nscript 1 b c\nend\n";
+
+const STUCK: &str = "script 0 c a\nscript 1 b\nend\n";
+
+/// Reads a claim about the job with these scripts.
+fn read(alloc: Global, scripts: &str, claim: &str) -> Result<Audited, Fail>
+    ensures { IfOk result (λ a. IsJob (data_of a.job)) }
+{
+    let mut text = Vec::from_slice(alloc, JOB.as_bytes())?;
+    text.extend_from_slice(scripts.as_bytes())?;
+    text.extend_from_slice(claim.as_bytes())?;
+    if text.len() > 1000 {
+        Err("too long")?;
+    }
+    match read_audited(alloc, text.as_slice()) {
+        Ok(audited) => Ok(audited),
+        Err(fault) => Err(Fail::from(fault)),
+    }
+}
+
+/// The verdict on a claim about the job with these scripts.
+fn verdict(alloc: Global, scripts: &str, claim: &str) -> Result<Audit, Fail> {
+    let audited = read(alloc, scripts, claim)?;
+    let dfa = audited.job.lang.dfa()?;
+    match close(alloc, &dfa) {
+        Ok(_closed) => Ok(audit(alloc, &audited.job, &audited.claim)?),
+        Err(_open) => Err(Fail::from("not closed")),
+    }
+}
+
+#[test]
+fn verdicts_on_runs(rt: HostRuntime) -> Result<(), Fail> {
+    let wrong = Audit::WrongAnswer {
+        defined: Answer::Accept,
+    };
+    for (scripts, claim, wanted) in [
+        (
+            WHOLE,
+            "claim accept\nfire b.0\nfire a.0\nfire c.0\nfire a.0\nend\n",
+            Audit::Yes,
+        ),
+        (
+            WHOLE,
+            "claim reject\nfire b.0\nfire a.0\nfire c.0\nfire a.0\nend\n",
+            wrong,
+        ),
+        (
+            WHOLE,
+            "claim stuck\nfire a.0\nfire b.0\nfire c.0\nfire a.0\nend\n",
+            wrong,
+        ),
+        (STUCK, "claim stuck\nfire b.0\nend\n", Audit::Yes),
+    ] {
+        assert_eq!(rt; verdict(rt.alloc(), scripts, claim)?, wanted);
+    }
+    Ok(())
+}
+
+#[test]
+fn verdicts_on_events(rt: HostRuntime) -> Result<(), Fail> {
+    let left = Audit::NotMaximal { letter: Letter(0) };
+    for (claim, wanted) in [
+        (
+            "claim accept\nfire b.0\nfire a.0\nfire c.0\nfire a.1\nend\n",
+            Audit::BadLabel { at: 3 },
+        ),
+        ("claim accept\nfire c.0\nend\n", Audit::BadLetter { at: 0 }),
+        (
+            "claim accept\nfire a.0\nfire a.1\nend\n",
+            Audit::BadLetter { at: 1 },
+        ),
+        ("claim accept\nfire a.0\nfire b.0\nfire c.0\nend\n", left),
+        ("claim reject\nend\n", left),
+    ] {
+        assert_eq!(rt; verdict(rt.alloc(), WHOLE, claim)?, wanted);
+    }
+    Ok(())
+}

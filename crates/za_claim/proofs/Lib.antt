@@ -1,0 +1,3 @@
+pub mod EventLetters
+pub mod Saying
+pub mod ReadBack

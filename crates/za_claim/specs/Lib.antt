@@ -1,0 +1,7 @@
+pub mod Limits
+pub mod Claims
+pub mod Grammar
+pub mod Audited
+pub mod Printed
+pub mod Laws
+pub mod Private

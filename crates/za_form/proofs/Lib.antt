@@ -1,0 +1,10 @@
+pub mod Below
+pub mod Runs
+pub mod Bits
+pub mod BitSets
+pub mod Joins
+pub mod Occurrences
+pub mod Sets
+pub mod Positions
+pub mod Searches
+pub mod Values

@@ -1,0 +1,15 @@
+pub mod Letters
+pub mod Events
+pub mod Takes
+pub mod Gives
+pub mod Hands
+pub mod Seats
+pub mod Fits
+pub mod Opens
+pub mod Serves
+pub mod Told
+pub mod Calls
+pub mod Desks
+pub mod Least
+pub mod Closes
+pub mod Whole

@@ -1,0 +1,9 @@
+pub mod Places
+pub mod Views
+pub mod Own
+pub mod Rule
+pub mod Steps
+pub mod Laws
+pub mod Answers
+pub mod Halls
+pub mod Private

@@ -1,0 +1,5 @@
+pub mod Knowledge
+pub mod Circles
+pub mod Inside
+pub mod Laws
+pub mod Private

@@ -1,0 +1,69 @@
+-- What a run on threads answers, by what is due.
+use Rattle.std.proofs.Common.{◌≡◌, ℕ, List, inl, inr, None, refl}
+use Rattle.za_alpha.specs.Alphabet.{loc_of}
+use Rattle.za_base.specs.Ends.{Ends}
+use Rattle.za_closure.specs.Breaks.{Break, IsLeastBreak, left_word, right_word}
+use Rattle.za_dfa.specs.Tables.{automaton_of}
+use Rattle.za_lang.specs.Jobs.{JobData, IsJob}
+use Rattle.za_lang.specs.Documents.{fault_of, job_of}
+use Rattle.za_report.specs.Texts.{answer_text, open_text}
+use Rattle.za_script.specs.declared.answer.Answer.{Answer}
+use Rattle.za_script.specs.Answer.{IsAnswer}
+use Rattle.za_script.specs.ScriptLists.{script_of}
+use Rattle.zielonka.specs.declared.request.Command.TheVariants.{Solo, Run}
+use Rattle.zielonka.specs.Headline.{ClosedIsAnswered, OtherIsRefused}
+use Rattle.zielonka.specs.Output.{IsAnswered, Ran, RanOnThreads, IsDueFor, Open, Answered, IsOutput, Refused, Read, given, status_of, woven_of}
+use Rattle.zielonka.specs.Run.{WroteAll}
+use Rattle.zielonka.specs.Shown.{IsClosed}
+use Rattle.zielonka.proofs.Causes.{completes}
+use Rattle.zielonka.proofs.OneOutput.{not-both, not-read}
+
+module _ (cache : ℕ) (old new : Ends) (job : JobData) where
+  -- it says the answer
+  abbrev SaysIt : ℕ → Type 0
+  SaysIt status =
+      (answer : Answer) × IsAnswer (loc_of job.lang.alphabet) (automaton_of (given job)) (script_of job.scripts) answer
+      × (status ≡ status_of answer) × WroteAll old new (answer_text job.naming.names job.lang.alphabet job.scripts (woven_of job) answer cache)
+
+  by-solo : {status : ℕ} {text : List ℕ} → IsAnswered job (Solo cache) status text → WroteAll old new text → SaysIt status
+  by-solo (Ran same answer right) wrote = (answer, right, refl, wrote)
+
+  by-run : {status : ℕ} {text : List ℕ} → IsAnswered job (Run cache) status text → WroteAll old new text → SaysIt status
+  by-run (RanOnThreads same status text answered) wrote = by-solo answered wrote
+
+  by-due : {status : ℕ} {text : List ℕ} → IsJob job → IsClosed job → IsDueFor (Run cache) job status text → WroteAll old new text → SaysIt status
+  by-due fine closed (Open k least) wrote = absurd (not-both job fine k least closed)
+  by-due fine closed (Answered status text also answered) wrote = by-run answered wrote
+
+  -- or it says that the language isn't closed
+  abbrev Refuses : ℕ → Type 0
+  Refuses status =
+      (k : Break) × IsLeastBreak (loc_of job.lang.alphabet) (automaton_of (given job)) k
+      × (status ≡ 5) × WroteAll old new (open_text job.lang.alphabet (left_word k) (right_word k))
+
+  by-break : {status : ℕ} {text : List ℕ} → ¬ IsClosed job → IsDueFor (Run cache) job status text → WroteAll old new text → Refuses status
+  by-break other (Open k least) wrote = (k, least, refl, wrote)
+  by-break other (Answered status text closed answered) wrote = absurd (other closed)
+
+module _ (cache : ℕ) (bytes : List ℕ) (old new : Ends) (right : fault_of bytes ≡ None) where
+  answers : {status : ℕ} {text : List ℕ} → IsClosed (job_of bytes) → IsOutput (Run cache) bytes status text → WroteAll old new text → SaysIt cache old new (job_of bytes) status
+  answers closed (Refused fault wrong) wrote = absurd (not-read bytes fault wrong right)
+  answers closed (Read status text also fine due) wrote = by-due cache old new (job_of bytes) fine closed due wrote
+
+  refuses : {status : ℕ} {text : List ℕ} → ¬ IsClosed (job_of bytes) → IsOutput (Run cache) bytes status text → WroteAll old new text → Refuses cache old new (job_of bytes) status
+  refuses other (Refused fault wrong) wrote = absurd (not-read bytes fault wrong right)
+  refuses other (Read status text also fine due) wrote = by-break cache old new (job_of bytes) other due wrote
+
+pub closed_is_answered : ClosedIsAnswered
+closed_is_answered cache bytes old new status well closed =
+    elim (completes _ old new status (Run cache) bytes well.ran refl well.had well.short well.reads well.writes) [
+      | inl none ↦ absurd (well.memory none)
+      | inr said ↦ answers cache bytes old new well.document closed said.1 said.2
+    ]
+
+pub other_is_refused : OtherIsRefused
+other_is_refused cache bytes old new status well other =
+    elim (completes _ old new status (Run cache) bytes well.ran refl well.had well.short well.reads well.writes) [
+      | inl none ↦ absurd (well.memory none)
+      | inr said ↦ refuses cache bytes old new well.document other said.1 said.2
+    ]

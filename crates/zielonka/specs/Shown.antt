@@ -1,0 +1,113 @@
+-- The finished run that is handed back: the one from which the text was made.
+use Rattle.std.specs.Prelude.{◌≡◌, ℕ, ◌≤◌, ◌==◌, List, [], ◌∷◌, Bool, true, false, IsTrue, length, Some, None}
+use Rattle.std.specs.List.{list_any}
+use Rattle.za_alpha.specs.Words.{AreEquivalent}
+use Rattle.za_alpha.specs.Alphabet.{loc_of}
+use Rattle.za_base.specs.Ends.{Ends}
+use Rattle.za_dfa.specs.Automata.{IsTraceClosed}
+use Rattle.za_dfa.specs.Tables.{automaton_of}
+use Rattle.za_lang.specs.Jobs.{JobData, IsJob}
+use Rattle.za_lang.specs.Documents.{fault_of, job_of}
+use Rattle.za_min.specs.Minimal.{IsMinimalOf}
+use Rattle.za_report.specs.LocalStates.{locals_text}
+use Rattle.za_report.specs.Texts.{answer_text}
+use Rattle.za_script.specs.Answer.{IsAnswer}
+use Rattle.za_script.specs.ScriptLists.{script_of}
+use Rattle.za_script.specs.Woven.{weave_of}
+use Rattle.za_table.specs.Ends.{EndedState, IsEnded, answer_in}
+use Rattle.zielonka.specs.Limits.{most_bytes}
+use Rattle.zielonka.specs.Output.{IsOutput, given, woven_of}
+use Rattle.zielonka.specs.Run.{HasSaid, ReadAll}
+use Rattle.zielonka.specs.declared.request.Command.{Command}
+use Rattle.zielonka.specs.declared.request.Command.TheVariants.{Solo, Run, Check, Locals}
+use Rattle.zielonka.specs.declared.request.Request.{Request}
+use Rattle.zielonka.specs.declared.request.Request.TheVariants.{Answer as Asks}
+use Rattle.zielonka.specs.declared.status.Shown.{Shown}
+use Rattle.zielonka.specs.declared.status.Shown.TheVariants.{Nothing, Solo as ShowsSolo, Hall as ShowsHall}
+
+-- whether the command runs the scripts of a job
+abbrev pub runs_scripts : Command → Bool
+runs_scripts (Solo cache) = true
+runs_scripts (Run cache) = true
+runs_scripts (Check cache) = false
+runs_scripts (Locals cache) = true
+
+-- whether it runs them on threads
+abbrev pub runs_on_threads : Command → Bool
+runs_on_threads (Solo cache) = false
+runs_on_threads (Run cache) = true
+runs_on_threads (Check cache) = false
+runs_on_threads (Locals cache) = false
+
+-- the language of the job is trace-closed
+abbrev pub IsClosed : JobData → Type 0
+IsClosed job = IsTraceClosed (loc_of job.lang.alphabet) (automaton_of (given job))
+
+-- the bytes are a job whose language is trace-closed
+pub record AreClosedJob (bytes : List ℕ) : Type 0 where
+  pub read : fault_of bytes ≡ None
+  pub job : IsJob (job_of bytes)
+  pub closed : IsClosed (job_of bytes)
+
+-- the run is one of the job: on the minimal automaton of its language and on its scripts; it is over, and its answer is
+-- that of the automaton as given to the scripts, over all words that weave them
+pub record IsRunOf (job : JobData) (run : EndedState) : Type 0 where
+  pub minimal : IsMinimalOf run.given.dfa (given job)
+  pub scripts : run.given.scripts ≡ job.scripts
+  pub over : IsEnded run
+  pub answer : IsAnswer (loc_of job.lang.alphabet) (automaton_of (given job)) (script_of job.scripts) (answer_in run)
+
+-- the text of the answer of a finished run, with the names of its processes. Its word is the weave, which says in
+-- which order its letters are told
+abbrev pub answer_text_of : List (List ℕ) → EndedState → ℕ → List ℕ
+answer_text_of names run cache =
+    let given = run.given in
+    answer_text names given.dfa.alphabet given.scripts (weave_of given.dfa.alphabet given.scripts) (answer_in run) cache
+
+-- the text is what the command makes of the run: of its answer, with the names of the processes, or of its local
+-- states, which are those after its journal
+abbrev pub IsMadeOf : Command → List (List ℕ) → EndedState → List ℕ → Type 0
+IsMadeOf (Solo cache) names run text = text ≡ answer_text_of names run cache
+IsMadeOf (Run cache) names run text = text ≡ answer_text_of names run cache
+IsMadeOf (Check cache) names run text = ⊥
+IsMadeOf (Locals cache) names run text = text ≡ locals_text run.given.dfa run.state.journal
+
+-- in which order the letters of a job were fired: on one thread in that of the woven word, on threads in some order
+-- that is equivalent to it
+abbrev pub IsJournalOf : Command → JobData → List ℕ → Type 0
+IsJournalOf (Solo cache) job journal = journal ≡ woven_of job
+IsJournalOf (Run cache) job journal = AreEquivalent (loc_of job.lang.alphabet) journal (woven_of job)
+IsJournalOf (Check cache) job journal = ⊥
+IsJournalOf (Locals cache) job journal = journal ≡ woven_of job
+
+-- the text of the command is made of the run, which is one of the job
+pub record IsMadeBy (command : Command) (job : JobData) (text : List ℕ) (run : EndedState) : Type 0 where
+  pub of : IsRunOf job run
+  pub journal : IsJournalOf command job run.state.journal
+  pub made : IsMadeOf command job.naming.names run text
+
+-- as what a finished run is shown: as one on one thread, or as that of a hall
+abbrev pub shown_as : Command → EndedState → Shown
+shown_as (Solo cache) run = ShowsSolo run
+shown_as (Run cache) run = ShowsHall run
+shown_as (Check cache) run = Nothing
+shown_as (Locals cache) run = ShowsSolo run
+
+-- whether a status may come of a finished run
+abbrev pub is_of_a_run : ℕ → Bool
+is_of_a_run status = list_any (λ s. s == status) (0 ∷ 1 ∷ 3 ∷ 7 ∷ [])
+
+-- what is shown by what is asked, by the status that the run of the program ended with
+pub data IsShown (asked : Request) (old new : Ends) (status : ℕ) : Shown → Type 0 where
+  -- all bytes were read, they are a job whose language is trace-closed, and the text that is due was made of the
+  -- finished run; it was written whole, with the status that is due, or in part, with 7
+  Finished : (command : Command) (bytes text : List ℕ) (due : ℕ) (run : EndedState) → asked ≡ Asks command →
+      ReadAll old new bytes → AreClosedJob bytes → IsMadeBy command (job_of bytes) text run →
+      IsOutput command bytes due text →
+      HasSaid due text old.written new.written old.write_faults new.write_faults status →
+      IsShown asked old new status (shown_as command run)
+  -- where a command that runs scripts is asked for, and the source tells its bytes, which are a job whose language is
+  -- trace-closed, not too long, the status is another one
+  Unshown : ((command : Command) (bytes : List ℕ) → asked ≡ Asks command → IsTrue (runs_scripts command) →
+      old.left ≡ Some bytes → length bytes ≤ most_bytes → AreClosedJob bytes → IsTrue (is_of_a_run status) → ⊥) →
+      IsShown asked old new status Nothing
