@@ -57,7 +57,10 @@ def commands(reference, man):
     shell = '. tools/zla.bash; COMP_WORDS=(zla ""); COMP_CWORD=1; _zla; echo "${COMPREPLY[*]}"'
     run = subprocess.run(["bash", "-c", shell], cwd=TOP, capture_output=True, text=True)
     want(run.stdout.split() == shown and not run.stderr, "zla.bash completes other commands: " + run.stdout + run.stderr)
-    return [command for command, rest in rows if "< JOB" in rest]
+    asked = [command for command, rest in rows if "< JOB" in rest]
+    for command in asked:
+        want(zla([command, "--cache", "64"], job)[0] == zla([command], job)[0], "--cache changes the status of " + command)
+    return asked
 
 
 def statuses(reference, man):
@@ -73,7 +76,7 @@ def statuses(reference, man):
 def lines_of_a_job(reference, man):
     """The grammar has the lines of the second reading, in their order."""
     productions = re.findall(r'^    \w+ += "(\w+)"', reference, re.M)
-    known = [name.decode() for name in list(second_reading.EXACTLY) + list(second_reading.AT_LEAST)]
+    known = {name.decode() for name in list(second_reading.EXACTLY) + list(second_reading.AT_LEAST)}
     want(sorted(productions) == sorted(known), "the grammar of REFERENCE.md has other lines")
     order = re.search(r"^    job +=(.*)$", reference, re.M)[1]
     want([name.rstrip("+*") for name in order.split()] == productions, "the grammar of REFERENCE.md has another order")

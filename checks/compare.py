@@ -4,7 +4,8 @@
 Each text is given to the built program with the words `solo`, `check` and `locals`, and status and bytes are
 compared: every example, every text that differs in one byte from a small example (removed, doubled, or changed to
 a space, a tab, a letter or a digit; these with `solo`, and every eleventh with the others), and jobs drawn at
-random, closed and not closed. `gen` is compared on some numbers.
+random, closed and not closed, in version 1 and with names, comments and repeats in version 2. `gen` is compared on
+some numbers.
 
     checks/compare.py [--long]     --long changes every example, not the small ones alone, and draws 12,000 jobs for 300
 """
@@ -62,6 +63,35 @@ def drawn(number):
     return ("\n".join(lines + ["end"]) + "\n").encode()
 
 
+def named(text):
+    """The same job in version 2: with names of processes, and its scripts in runs of letters, with comments between."""
+    job = second_reading.read(text)
+    job.version, job.names = 2, [b"p%d" % p if p % 2 else b"q_%d" % p for p in range(job.processes)]
+    return second_reading.printed(job).replace(b"\nstates", b"\n# states\nstates").replace(b"\nend", b"\n\t#end\nend")
+
+
+# a job of version 2 with what it has beyond version 1, whose changes are tried
+NAMED = b"""zla 2
+# two sides
+processes left right
+letter a left
+letter b right
+letter c left right
+states 2
+start 0
+accept 0
+row 0 a 1
+row 0 b 0
+row 0 c 0
+row 1 a 0
+row 1 b 1
+row 1 c 1
+script left a*2 c
+script right b c
+end
+"""
+
+
 def cases(is_long):
     """The words and the texts that are tried."""
     for name in sorted(glob.glob(os.path.join(TOP, "examples", "**", "*.zla"), recursive=True)):
@@ -75,10 +105,15 @@ def cases(is_long):
                 if at % 11 == 0:
                     yield "check", other
                     yield "locals", other
+    for at, other in enumerate(sorted(set(changed(NAMED)))):
+        yield "solo", other
+        if at % 11 == 0:
+            yield "locals", other
     for number in range(DRAWN_LONG if is_long else DRAWN):
         text = drawn(number)
         for command in second_reading.COMMANDS:
             yield command, text
+            yield command, named(text)
 
 
 def main():

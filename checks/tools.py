@@ -34,6 +34,7 @@ def script(name):
 explain, draw, product = script("explain"), script("draw"), script("product")
 HEAD = b"zla 1\nprocesses 2\nletter a 0\nletter b 0 1\n"
 JOB = HEAD + b"states 2\nstart 0\naccept 1\nrow 0 a 1\nscript 0 a\nend\n"
+NAMED = b"zla 2\nprocesses left right\nletter a left\nletter b left right\nstates 2\nstart 0\naccept 1\nrow 0 a 1\nscript left a\nend\n"
 # a text, and what its explanation has to say
 REFUSED = [
     (JOB.replace(b"\n", b"\r\n"), "carriage return"),
@@ -49,7 +50,7 @@ REFUSED = [
     (JOB.replace(b"row 0 a 1", b"row 0 a 1 # begin"), "no comment"),
     (JOB.replace(b"letter a 0", b"letter a 0 // of one"), "no comment"),
     (JOB.replace(b"script 0 a", b"script 0 a -- all"), "no comment"),
-    (JOB.replace(b"zla 1", b"zla 2"), "version 1 alone"),
+    (JOB.replace(b"zla 1", b"zla 3"), "versions 1 and 2 alone"),
     (JOB.replace(b"zla 1\n", b""), "header is missing"),
     (JOB.replace(b"end\n", b"row 1 a 0\nend\n"), "above the first script line"),
     (JOB.replace(b"accept 1\n", b""), "`accept` line comes before it: it is missing"),
@@ -83,6 +84,13 @@ REFUSED = [
     (JOB.replace(b"row 0 a 1", b"row 0 a 1\nrow 0 a 0"), "line 8 says"),
     (JOB.replace(b"script 0 a", b"script 1 a"), "another script"),
     (JOB.replace(b"end\n", b"script 0" + b" a" * 65536 + b"\nend\n"), "65536 script letters"),
+    (NAMED.replace(b"left right\nletter a", b"a b c d e f g h i j k\nletter a"), "1 to 10 names"),
+    (NAMED.replace(b"processes left right", b"processes left left"), "stands twice"),
+    (NAMED.replace(b"states 2\n", b"".join(b"letter l%d left\n" % i for i in range(127))), "128 letter lines"),
+    (NAMED.replace(b"states 2", b"states 129"), "1 to 128 states"),
+    (NAMED.replace(b"script left a", b"script left a*0"), "a number from 1 on"),
+    (NAMED.replace(b"script left a", b"script 0 a"), "they have names alone"),
+    (NAMED.replace(b"script left a", b"script right a"), "has to name process right too"),
 ]
 # the same of rejected jobs
 REJECTED = [
@@ -102,8 +110,12 @@ def want(is_right, what, text):
 
 
 def kinds():
+    """The kinds of refusal of documents; those of claims, which no command reads, stand in a table of their own."""
     with open(os.path.join(TOP, "docs", "FORMATS.md"), encoding="utf-8") as file:
-        return set(re.findall(r"^\| `\w+` \| `([^`]+)` \|", file.read(), re.M))
+        text = file.read()
+    rows = re.compile(r"^\| `\w+` \| `([^`]+)` \|", re.M)
+    claims = text[text.index("Of claims after a document:") :].split("\n\n", 2)[1]
+    return set(rows.findall(text)) - set(rows.findall(claims))
 
 
 def explanation(text):
@@ -143,7 +155,7 @@ def charts(text):
     for p in range(job.processes):
         mine = [mark for mark in run.marks if p in mark.processes]
         want(all(x.row < y.row for x, y in zip(mine, mine[1:])), "the lane of process %d doesn't go down" % p, text)
-        at = lines[0].index("process %d" % p)
+        at = lines[0].index(draw.heads_of(job)[p])
         lane = [line[at:].split() for line in lines[1 : len(lines) - bool(run.ends)]]
         names = [cell[0] for cell in lane if cell and cell[0][0] != "|"]
         wanted = [order.shown(i) for i, a in enumerate(word) if p in job.loc(a)]

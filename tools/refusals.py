@@ -90,9 +90,9 @@ def trailing(at: At) -> Told:
 
 
 def header(at: At) -> Told:
-    may = "`zla 1`, before all other lines"
+    may = "`zla 1` or `zla 2`, before all other lines"
     if at.words[0] == b"zla":
-        return Told("the header has another version, or more words", may, "there is version 1 alone")
+        return Told("the header has another version, or more words", may, "there are versions 1 and 2 alone")
     said = "the first line that isn't empty has to be the header"
     return Told(said, may, "the header is missing, or something stands above it")
 
@@ -199,16 +199,33 @@ def bad_name(at: At) -> Told:
 
 
 def process_count(_: At) -> Told:
-    cause = "a job of no process, or of more than a document may have"
+    cause = "a job of no process, or of more than a document of version 1 may have; version 2 has up to 10"
     return Told("a document has 1 to 6 processes", "a number from 1 to 6", cause)
 
 
-def state_count(_: At) -> Told:
+def wide_processes(_: At) -> Told:
+    return Told("a document has 1 to 10 processes", "1 to 10 names", "a job of more processes than a document may have")
+
+
+def repeated_process(at: At) -> Told:
+    said = "%s stands twice in the line" % quoted(at.fault.token)
+    return Told(said, "another name", "each process is named once, and has its number by its place in the line")
+
+
+def bad_repeat(at: At) -> Told:
+    count = at.fault.token.partition(b"*")[2]
+    said = "%s after the `*` isn't a number from 1 on" % quoted(count) if count else "nothing stands after the `*`"
+    may = "NAME*COUNT, with digits alone and without a leading 0"
+    return Told(said, may, "an item that stands for no letter is left out; a space before or after the `*` parts the item")
+
+
+def state_count(at: At) -> Told:
+    most = second_reading.MOST_STATES[at.fault.job.version]
     cause = (
         "a rule of no state, or of many parts: leave out the states from which nothing is accepted, since missing rows "
         "say the same, and give one number to states after which the same words are right"
     )
-    return Told("a document has 1 to 32 states", "a number from 1 to 32", cause)
+    return Told("a document has 1 to %d states" % most, "a number from 1 to %d" % most, cause)
 
 
 def numbered(what: str, count: int, line: int) -> Tuple[str, str]:
@@ -222,6 +239,10 @@ def numbered(what: str, count: int, line: int) -> Tuple[str, str]:
 def no_such_process(at: At) -> Told:
     job = at.fault.job
     said = "there is no process " + at.fault.token.decode()
+    if job.version == 2:
+        may = "a process: " + listed((name.decode() for name in job.names), "or")
+        cause = "line %d names the processes; in version 2 they have names alone" % job.lines[b"processes"]
+        return Told(said, may, cause)
     return Told(said, *numbered("process", job.processes, job.lines[b"processes"]))
 
 
@@ -233,8 +254,9 @@ def no_such_state(at: At) -> Told:
 # ---- letters ----
 
 
-def letter_count(_: At) -> Told:
-    return Told("32 letter lines stand above", "a `states` line", "more letters than a document may have")
+def letter_count(at: At) -> Told:
+    said = "%d letter lines stand above" % second_reading.MOST_LETTERS[at.fault.job.version]
+    return Told(said, "a `states` line", "more letters than a document may have")
 
 
 def repeated_name(at: At) -> Told:
@@ -251,7 +273,7 @@ def without_process(at: At) -> Told:
 
 def letters_of(at: At, p: int) -> str:
     mine = (name.decode() for name, loc in at.fault.job.letters if p in loc)
-    return "a letter of process %d: %s" % (p, listed(mine, "or"))
+    return "a letter of process %s: %s" % (at.fault.job.process(p), listed(mine, "or"))
 
 
 def no_such_letter(at: At) -> Told:
@@ -260,7 +282,7 @@ def no_such_letter(at: At) -> Told:
     said = "no letter line names " + quoted(token)
     may = "a letter: " + listed((name.decode() for name in names), "or")
     if at.words[0] == b"script":
-        may = letters_of(at, int(at.words[1]))
+        may = letters_of(at, job.process_of(at.words[1]))
     meant = nearest(token, names)
     if second_reading.NUMBER.match(token):
         cause = in_another_order(at)
@@ -285,11 +307,12 @@ def two_targets(at: At) -> Told:
 
 
 def not_of_process(at: At) -> Told:
-    job, token, p = at.fault.job, at.fault.token, int(at.words[1])
-    a = job.letter_of(token)
-    there = quoted(token), processes(job.loc(a)), job.letter_lines[a], p
-    said = "%s is of %s (line %d), and this is a script of process %d" % there
-    cause = "the letter belongs into another script; or line %d has to name process %d too" % (job.letter_lines[a], p)
+    job, token, p = at.fault.job, at.fault.token, at.fault.job.process_of(at.words[1])
+    a = job.letter_of(token if job.version == 1 else token.partition(b"*")[0])
+    owners = processes(job.loc(a)) if job.version == 1 else listed(job.process(q) for q in job.loc(a))
+    line, mine = job.letter_lines[a], job.process(p)
+    said = "%s is of %s (line %d), and this is a script of process %s" % (quoted(token), owners, line, mine)
+    cause = "the letter belongs into another script; or line %d has to name process %s too" % (line, mine)
     return Told(said, letters_of(at, p), cause)
 
 
@@ -301,7 +324,7 @@ def scripts_full(_: At) -> Told:
 KINDS: Dict[str, Callable[[At], Told]] = {
     "line is cut": cut,
     "bad byte": bad_byte,
-    "header is not zla 1": header,
+    "header is not zla 1 or 2": header,
     "line is out of order": out_of_order,
     "wrong number of words": word_count,
     "end is missing": no_end,
@@ -309,15 +332,20 @@ KINDS: Dict[str, Callable[[At], Told]] = {
     "bad number": bad_number,
     "bad name": bad_name,
     "processes not in 1 to 6": process_count,
+    "processes not in 1 to 10": wide_processes,
+    "process is repeated": repeated_process,
     "more than 32 letters": letter_count,
+    "more than 128 letters": letter_count,
     "name is repeated": repeated_name,
     "letter without process": without_process,
     "no such process": no_such_process,
     "states not in 1 to 32": state_count,
+    "states not in 1 to 128": state_count,
     "no such state": no_such_state,
     "no such letter": no_such_letter,
     "two targets": two_targets,
     "letter not of this process": not_of_process,
+    "bad repeat": bad_repeat,
     "more than 65536 script letters": scripts_full,
 }
 # of these a comment is no likely cause, and what is wrong may be no token
@@ -328,8 +356,9 @@ def told_of(at: At) -> Told:
     note = comment(at)
     if note is None or at.fault.kind in NOT_OF_TOKENS:
         return KINDS[at.fault.kind](at)
-    may = "no comment: documents of version 1 have none"
-    return Told("%s begins a comment, it seems" % quoted(note), may, "notes stand in a file beside the job, not in it")
+    may = "no comment here: version 2 alone has comments, in lines of their own that begin with `#`"
+    cause = "write the job in version 2 (`zla 2`), or notes in a file beside it"
+    return Told("%s begins a comment, it seems" % quoted(note), may, cause)
 
 
 def marked(at: At) -> Tuple[int, int]:

@@ -1,15 +1,17 @@
 """A second reading of the definitions, in plain Python: unproved, slow, and written from docs/FORMATS.md and
 docs/THEOREMS.md and not from the program.
 
-It reads documents by the grammar, and works out the answers of `solo`, `check` and `locals` straight from the
+It reads documents of both versions by the grammar, and works out the answers of `solo`, `check` and `locals` straight from the
 definitions: languages by words, views by positions, labels by tertiary entries. The repository's checks compare the
 program with it, `gen` included, and tools/draw, tools/explain and tools/product are made from it.
 """
+import itertools
 import re
 from collections import deque
 
 MOST_BYTES = 1048576
-MOST_PROCESSES, MOST_LETTERS, MOST_STATES, MOST_SCRIPT_LETTERS = 6, 32, 32, 65536
+MOST_PROCESSES, MOST_LETTERS, MOST_STATES = {1: 6, 2: 10}, {1: 32, 2: 128}, {1: 32, 2: 128}  # by version
+MOST_SCRIPT_LETTERS = 65536
 NAME = re.compile(rb"[A-Za-z_][A-Za-z0-9_]{0,31}\Z")
 NUMBER = re.compile(rb"(0|[1-9][0-9]{0,9})\Z")
 USAGE = b"usage: zla solo|run|check|locals|journal [--cache C], zla audit, zla gen N\n"
@@ -51,7 +53,9 @@ class Job:
     """What the lines of a document say, gathered line by line, and at which lines it stands."""
 
     def __init__(self):
+        self.version = 1
         self.processes = self.states = self.start = 0
+        self.names = []  # of the processes, as bytes; in version 1 their numbers
         self.letters = []  # (name, processes in rising order)
         self.accepting = set()
         self.targets = {}  # (state, letter) to state
@@ -69,6 +73,9 @@ class Job:
         raise Wrong("no such letter", name)
 
     def process_of(self, word):
+        if self.version == 2:
+            want(word in self.names, "no such process", word)
+            return self.names.index(word)
         p = number(word)
         want(p < self.processes, "no such process", word)
         return p
@@ -80,6 +87,9 @@ class Job:
 
     def name(self, a):
         return self.letters[a][0].decode()
+
+    def process(self, p):
+        return self.names[p].decode()
 
     def loc(self, a):
         return self.letters[a][1]
@@ -101,18 +111,50 @@ PLACES = [
 ]
 # for each first word, how many words its line has: exactly, or at least
 EXACTLY = {b"zla": 2, b"processes": 2, b"states": 2, b"start": 2, b"row": 4, b"end": 1}
-AT_LEAST = {b"letter": 2, b"accept": 1, b"script": 2}
+AT_LEAST = {b"processes": 2, b"letter": 2, b"accept": 1, b"script": 2}
+
+
+def take_processes(job, words):
+    """How many processes there are, or in version 2 their names."""
+    most = MOST_PROCESSES[job.version]
+    if job.version == 2:
+        want(len(words) <= most, "processes not in 1 to %d" % most)
+        for word in words:
+            want(NAME.match(word), "bad name", word)
+            want(word not in job.names, "process is repeated", word)
+            job.names.append(word)
+    else:
+        count = number(words[0])
+        want(1 <= count <= most, "processes not in 1 to %d" % most, words[0])
+        job.names = [b"%d" % p for p in range(count)]
+    job.processes = len(job.names)
+    job.scripts = [[] for _ in range(job.processes)]
+    job.script_lines = [[] for _ in range(job.processes)]
+
+
+def take_item(job, p, word):
+    """A letter of a script, or in version 2 so many of it."""
+    before, star, count = word.partition(b"*") if job.version == 2 else (word, b"", b"")
+    name = Token(before)
+    name.column = word.column
+    a = job.letter_of(name)
+    want(p in job.loc(a), "letter not of this process", word)
+    times = 1
+    if star:
+        want(NUMBER.match(count) and 0 < int(count) < 2**32, "bad repeat", word)
+        times = int(count)
+    want(sum(map(len, job.scripts)) + times <= MOST_SCRIPT_LETTERS, "more than 65536 script letters", word)
+    job.scripts[p] += [a] * times
+    job.script_lines[p] += [job.line] * times
 
 
 def take(job, first, words):
     """The line's own tests in their order; what it says is gathered."""
     if first == b"processes":
-        job.processes = number(words[0])
-        want(1 <= job.processes <= MOST_PROCESSES, "processes not in 1 to 6", words[0])
-        job.scripts = [[] for _ in range(job.processes)]
-        job.script_lines = [[] for _ in range(job.processes)]
+        take_processes(job, words)
     elif first == b"letter":
-        want(len(job.letters) < MOST_LETTERS, "more than 32 letters")
+        most = MOST_LETTERS[job.version]
+        want(len(job.letters) < most, "more than %d letters" % most)
         want(NAME.match(words[0]), "bad name", words[0])
         want(all(words[0] != name for name, _ in job.letters), "name is repeated", words[0])
         want(len(words) > 1, "letter without process", words[0])
@@ -120,7 +162,8 @@ def take(job, first, words):
         job.letter_lines.append(job.line)
     elif first == b"states":
         job.states = number(words[0])
-        want(1 <= job.states <= MOST_STATES, "states not in 1 to 32", words[0])
+        most = MOST_STATES[job.version]
+        want(1 <= job.states <= most, "states not in 1 to %d" % most, words[0])
     elif first == b"start":
         job.start = job.state_of(words[0])
     elif first == b"accept":
@@ -133,11 +176,7 @@ def take(job, first, words):
     elif first == b"script":
         p = job.process_of(words[0])
         for word in words[1:]:
-            a = job.letter_of(word)
-            want(p in job.loc(a), "letter not of this process", word)
-            want(sum(map(len, job.scripts)) < MOST_SCRIPT_LETTERS, "more than 65536 script letters", word)
-            job.scripts[p].append(a)
-            job.script_lines[p].append(job.line)
+            take_item(job, p, word)
 
 
 def tokens(text):
@@ -154,14 +193,16 @@ def take_line(job, place, text, whole):
     want(whole, "line is cut")
     want(all(b == 9 or 32 <= b <= 126 for b in text), "bad byte")
     words = tokens(text)
-    if not words:
+    if not words or (job.version == 2 and words[0].startswith(b"#")):
         return place
     if place == 0:
-        want(words == [b"zla", b"1"], "header is not zla 1", words[0])
+        want(words in ([b"zla", b"1"], [b"zla", b"2"]), "header is not zla 1 or 2", words[0])
+        job.version = int(words[1])
     want(place < 8, "text after end", words[0])
     first = words[0]
     want(first in PLACES[place], "line is out of order", first)
-    want(len(words) == EXACTLY[first] if first in EXACTLY else len(words) >= AT_LEAST[first], "wrong number of words")
+    exactly = first in EXACTLY and (first, job.version) != (b"processes", 2)
+    want(len(words) == EXACTLY[first] if exactly else len(words) >= AT_LEAST[first], "wrong number of words")
     take(job, first, words[1:])
     job.lines[bytes(first)] = job.line
     return PLACES[place][first]
@@ -183,13 +224,21 @@ def read(text):
     return job
 
 
+def items(job, script):
+    """The items of a script: letters, or in version 2 maximal runs of one letter."""
+    if job.version == 1:
+        return [job.letters[a][0] for a in script]
+    runs = [(job.letters[a][0], len(list(run))) for a, run in itertools.groupby(script)]
+    return [name if count == 1 else b"%s*%d" % (name, count) for name, count in runs]
+
+
 def printed(job):
     """The printed form of a job."""
-    out = [[b"zla", b"1"], [b"processes", job.processes]]
-    out += [[b"letter", name] + procs for name, procs in job.letters]
+    out = [[b"zla", job.version], [b"processes"] + (job.names if job.version == 2 else [job.processes])]
+    out += [[b"letter", name] + [job.names[p] for p in procs] for name, procs in job.letters]
     out += [[b"states", job.states], [b"start", job.start], [b"accept"] + sorted(job.accepting)]
     out += [[b"row", q, job.letters[a][0], job.targets[q, a]] for q, a in sorted(job.targets)]
-    out += [[b"script", p] + [job.letters[a][0] for a in script] for p, script in enumerate(job.scripts)]
+    out += [[b"script", job.names[p]] + items(job, script) for p, script in enumerate(job.scripts)]
     out.append([b"end"])
     return b"".join(b" ".join(w if isinstance(w, bytes) else b"%d" % w for w in words) + b"\n" for words in out)
 
@@ -366,7 +415,7 @@ def solo(job, dfa):
     if not whole:
         for p, script in enumerate(job.scripts):
             rest = "ended" if done[p] == len(script) else "waits " + job.name(script[done[p]])
-            lines.append("process %d fired %d %s" % (p, done[p], rest))
+            lines.append("process %s fired %d %s" % (job.process(p), done[p], rest))
         lines.append(" ".join(["trace"] + [job.name(a) for a in word]))
     return status, lines
 
@@ -406,6 +455,7 @@ def generated(number):
     """The job that a number determines."""
     job, register = Job(), number
     job.processes, job.letters, job.states = 4, GENERATED_LETTERS, 8
+    job.names = [b"%d" % p for p in range(job.processes)]
     job.scripts = [[] for _ in range(job.processes)]
     job.targets = {(q, a): generated_step(q, name) for q in range(8) for a, (name, _) in enumerate(job.letters)}
     q = job.start

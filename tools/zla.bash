@@ -1,6 +1,10 @@
 # Completion of zla's command words for bash: `. tools/zla.bash` in the shell, or a line of ~/.bashrc.
 _zla() {
     local word=${COMP_WORDS[COMP_CWORD]}
-    [ "$COMP_CWORD" -eq 1 ] && mapfile -t COMPREPLY < <(compgen -W "solo check locals gen" -- "$word")
+    if [ "$COMP_CWORD" -eq 1 ]; then
+        mapfile -t COMPREPLY < <(compgen -W "solo run check locals gen" -- "$word")
+    elif [[ ${COMP_WORDS[1]} =~ ^(solo|run|check|locals)$ && $word == -* ]]; then
+        mapfile -t COMPREPLY < <(compgen -W "--cache" -- "$word")
+    fi
 }
 complete -o default -F _zla zla
