@@ -12,6 +12,7 @@ pub mod gossip;
 pub mod hopes;
 pub mod locals;
 pub mod minimal;
+pub mod news;
 pub mod numbers;
 pub mod pasts;
 pub mod scripts;

@@ -5,13 +5,13 @@ use crate::automata::{accepts_trace, without};
 use crate::closure::{Pair, told_apart};
 use crate::commands::{are_in_form, complaint};
 use crate::distributed::can_be_distributed;
-use crate::documents::{document_answer, normal_form};
+use crate::documents::{document_answer, normal_form, of_two, process_of};
 use crate::gossip::after_first;
 use crate::locals;
 use crate::minimal::{difference, states_needed};
 use crate::numbers::fresh;
 use crate::pasts::leads_to;
-use crate::scripts::answer;
+use crate::scripts::{answer, repeated};
 use crate::streams::{CopyEnd, copy_all};
 use crate::texts::{line_count, only_number};
 use crate::views::news;
@@ -458,6 +458,72 @@ fn assert_printed(
         Some(form) => assert_eq!(rt; form.as_slice(), wanted.as_slice()),
         None => assert!(rt; printed.is_none()),
     }
+    Ok(())
+}
+
+/// Two words, and of `right` the process that it names: none where the words name no two processes.
+type Naming = (&'static [u8], &'static [u8], Option<usize>);
+
+static NAMINGS: [Naming; 4] = [
+    (b"left", b"right", Some(1)),
+    (b"right", b"left", Some(0)),
+    (b"right", b"right", None),
+    (b"right", b"1", None),
+];
+
+fn process_right(
+    rt: &impl Abort,
+    alloc: Global,
+    dfa: &Dfa,
+    first: &[u8],
+    second: &[u8],
+) -> Result<Option<usize>, OutOfMemory> {
+    assert!(rt; dfa.alphabet().processes() == 2 && dfa.states() <= 128);
+    let lang = of_two(alloc, dfa, first, second)?;
+    Ok(lang.as_ref().and_then(|lang| process_of(lang, b"right")))
+}
+
+#[test]
+fn names_of_two_processes(rt: HostRuntime) -> Result<(), Fail> {
+    let closed = without_b(&rt, rt.alloc())?;
+    for (first, second, process) in &NAMINGS {
+        let said = process_right(&rt, rt.alloc(), closed.dfa(), first, second)?;
+        assert_eq!(rt; said, *process);
+    }
+    Ok(())
+}
+
+fn repeated_total(
+    rt: &impl Abort,
+    alloc: Global,
+    alphabet: &Alphabet,
+    p: usize,
+    a: u8,
+    count: u32,
+) -> Result<usize, ScriptFault> {
+    assert!(rt; p < alphabet.processes() && (a as usize) < alphabet.letters() && 0 < count);
+    Ok(repeated(alloc, alphabet, p, Letter(a), count)?.total())
+}
+
+#[test]
+fn one_letter_many_times(rt: HostRuntime) -> Result<(), Fail> {
+    let alphabet = two(rt.alloc())?;
+    assert_eq!(rt;
+        repeated_total(&rt, rt.alloc(), &alphabet, 0, 2, 65536),
+        Ok(65536)
+    );
+    assert_eq!(rt;
+        repeated_total(&rt, rt.alloc(), &alphabet, 0, 2, 65537),
+        Err(ScriptFault::Full)
+    );
+    let foreign = ScriptFault::Foreign {
+        process: 0,
+        letter: Letter(1),
+    };
+    assert_eq!(rt;
+        repeated_total(&rt, rt.alloc(), &alphabet, 0, 1, 2),
+        Err(foreign)
+    );
     Ok(())
 }
 

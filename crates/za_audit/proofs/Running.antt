@@ -1,15 +1,20 @@
 -- Right events are a run of the job: their letters fit its scripts, and where no letter can fire, they answer as the job.
 use Rattle.std.proofs.Common.{◌≡◌, ℕ, zero, suc, ◌+◌, ◌<◌, ◌≤◌, ◌&&◌, Bool, ◌↔◌, List, [], ◌∷◌, ◌++◌, length, get_or, take, slice_index, nat_lt, sym, ap, subst}
 use Rattle.std.proofs.Common.{◌∙◌, arith, ltb-true}
-use Rattle.std.specs.Prelude.{IsTrue, if◌then◌else◌}
+use Rattle.std.specs.Prelude.{IsTrue, Option, if◌then◌else◌}
 use Rattle.std.proofs.lemmas.List.{length-take-le, take_all}
 use Rattle.std.proofs.lemmas.Bool.{and_parts, lt-ltb}
 use Rattle.std.proofs.Math.Seq.{take-suc}
 use Rattle.za_alpha.specs.Words.{IsAlphabet}
 use Rattle.za_alpha.specs.Alphabet.{DistributedAlphabet, loc_of}
 use Rattle.za_views.specs.Marks.{MarkedWord}
-use Rattle.za_dfa.specs.Automata.{is_accepted, IsTraceClosed}
+use Rattle.za_dfa.specs.Automata.{is_accepted, walk, IsTraceClosed}
 use Rattle.za_order.specs.Labels.{label}
+use Rattle.za_min.specs.declared.live.Hope.{Hope}
+use Rattle.za_min.specs.Live.{IsHope}
+use Rattle.za_hope.specs.Hopes.{IsHopeOf, GoesWith}
+use Rattle.za_hope.proofs.Hoping.{goes-map, hope_is_of_the_state}
+use Rattle.za_script.specs.declared.answer.Answer.{Answer}
 use Rattle.za_script.specs.declared.answer.Answer.TheVariants.{Accept, Reject, Stuck}
 use Rattle.za_script.specs.Scripts.{is_enabled, Fits, FitsMaximally}
 use Rattle.za_script.specs.ScriptLists.{script_of, FitAlphabet}
@@ -23,6 +28,7 @@ use Rattle.za_claim.specs.Claims.{event_letters, blank_event}
 use Rattle.za_claim.proofs.EventLetters.{events-length, event-letter, letters-more}
 use Rattle.za_audit.specs.Private.Standing.{AreCounts, AreUsedUp, NoneIsNext, IsLeastNext, is_next}
 use Rattle.za_audit.specs.Verdicts.{automaton, can_fire, defined_label, letter_at, letters_before, AreRight, AreWhole, IsLeastLeft, IsAnswerOf}
+use Rattle.za_hope.specs.Jobs.{HasHope}
 use Rattle.za_audit.proofs.Counting.{next-is-enabled}
 
 -- the label that a push answers is the defined one
@@ -116,3 +122,14 @@ module _ (job : JobData) (events : List Event) where
         subst (λ b. IsAnswerOf job (if used then (if b then Accept else Reject) else Stuck)) (sym e)
         (maximal_words_have_the_answer (loc_of job.lang.alphabet) job.lang.alphabet.processes (automaton job) (script_of job.scripts) woven al closed full
         (λ t. weaves.0 (u.0 t), λ k. u.1 (weaves.1 k)))
+
+  -- and the hope of the state to which it leads
+  pub hope-from : IsAlphabet (loc_of job.lang.alphabet) (length job.lang.alphabet.letters) job.lang.alphabet.processes →
+      IsTraceClosed (loc_of job.lang.alphabet) (automaton job) → AreWhole job events → (answer : Answer) (hope : Option Hope) →
+      GoesWith (IsHope (automaton job) (walk (automaton job).step (automaton job).start (event_letters events))) answer hope → HasHope job answer hope
+  hope-from al closed whole answer hope goes =
+      let loc = loc_of job.lang.alphabet in
+      let d = automaton job in
+      let scripts = script_of job.scripts in
+      goes-map (IsHope d (walk d.step d.start (event_letters events))) (IsHopeOf loc job.lang.alphabet.processes d scripts) answer hope
+      (λ h. (hope_is_of_the_state loc job.lang.alphabet.processes d scripts (event_letters events) h al closed (whole-maximal whole)).1) goes

@@ -7,6 +7,7 @@ use Rattle.std.proofs.Common.{nat_lt, ltb-true}
 use Rattle.za_alpha.specs.Alphabet.{loc_of}
 use Rattle.za_script.specs.Scripts.{is_enabled}
 use Rattle.za_script.specs.ScriptLists.{script_of}
+use Rattle.za_hope.proofs.Hoping.{hopes_are_one}
 use Rattle.za_lang.specs.Jobs.{JobData}
 use Rattle.za_claim.specs.declared.claim.Event.{Event}
 use Rattle.za_claim.specs.Claims.{ClaimData, event_letters}
@@ -15,7 +16,7 @@ use Rattle.za_audit.specs.declared.verdict.Audit.TheVariants.{Yes, BadLetter, Ba
 use Rattle.za_audit.specs.Laws.{VerdictsAreOne}
 use Rattle.za_audit.specs.Private.Standing.{IsFault}
 use Rattle.za_audit.specs.Verdicts.{IsRight, AreRight, HasBadLetter, HasBadLabel, AreWhole, IsLeastLeft, IsAnswerOf, IsVerdict, NamesLetterOf, can_fire, letter_at}
-use Rattle.za_audit.specs.Verdicts.{letters_before}
+use Rattle.za_audit.specs.Verdicts.{automaton, letters_before}
 
 -- a job has one answer
 pub answers-one : (job : JobData) (a b : Answer) → IsAnswerOf job a → IsAnswerOf job b → a ≡ b
@@ -33,7 +34,7 @@ answers-one job Stuck Reject x y = absurd (x y.0.0 y.0.1)
 pub fault-verdict : (job : JobData) (claim : ClaimData) (a : Audit) → IsFault job claim.events a → IsVerdict job claim a
 fault-verdict job claim (BadLetter at) h = h
 fault-verdict job claim (BadLabel at) h = h
-fault-verdict job claim Yes h = absurd h
+fault-verdict job claim (Yes hope) h = absurd h
 fault-verdict job claim (NotMaximal letter) h = absurd h
 fault-verdict job claim (WrongAnswer defined) h = absurd h
 
@@ -83,7 +84,7 @@ left-whole job events a x y = let f : true ≡ false = sym x.fires ∙ y.none a 
 
 -- a verdict names a letter of the alphabet
 pub verdict_names : (job : JobData) (claim : ClaimData) (a : Audit) → IsVerdict job claim a → NamesLetterOf job.lang.alphabet a
-verdict_names job claim Yes h = tt
+verdict_names job claim (Yes hope) h = tt
 verdict_names job claim (BadLetter at) h = tt
 verdict_names job claim (BadLabel at) h = tt
 verdict_names job claim (WrongAnswer defined) h = tt
@@ -95,27 +96,28 @@ pub verdicts_are_one : VerdictsAreOne
 verdicts_are_one job claim (BadLetter a) (BadLetter b) x y =
     ap BadLetter (wrong-one job claim.events a b (letter-wrong job claim.events a x) (letter-wrong job claim.events b y))
 verdicts_are_one job claim (BadLetter a) (BadLabel b) x y = absurd (letter-label job claim.events a b x y)
-verdicts_are_one job claim (BadLetter a) Yes x y = absurd (wrong-right job claim.events a (letter-wrong job claim.events a x) y.0.right)
+verdicts_are_one job claim (BadLetter a) (Yes h) x y = absurd (wrong-right job claim.events a (letter-wrong job claim.events a x) y.0.right)
 verdicts_are_one job claim (BadLetter a) (NotMaximal l) x y = absurd (wrong-right job claim.events a (letter-wrong job claim.events a x) y.right)
 verdicts_are_one job claim (BadLetter a) (WrongAnswer d) x y = absurd (wrong-right job claim.events a (letter-wrong job claim.events a x) y.0.right)
 verdicts_are_one job claim (BadLabel a) (BadLetter b) x y = absurd (letter-label job claim.events b a y x)
 verdicts_are_one job claim (BadLabel a) (BadLabel b) x y =
     ap BadLabel (wrong-one job claim.events a b (label-wrong job claim.events a x) (label-wrong job claim.events b y))
-verdicts_are_one job claim (BadLabel a) Yes x y = absurd (wrong-right job claim.events a (label-wrong job claim.events a x) y.0.right)
+verdicts_are_one job claim (BadLabel a) (Yes h) x y = absurd (wrong-right job claim.events a (label-wrong job claim.events a x) y.0.right)
 verdicts_are_one job claim (BadLabel a) (NotMaximal l) x y = absurd (wrong-right job claim.events a (label-wrong job claim.events a x) y.right)
 verdicts_are_one job claim (BadLabel a) (WrongAnswer d) x y = absurd (wrong-right job claim.events a (label-wrong job claim.events a x) y.0.right)
 verdicts_are_one job claim (NotMaximal l) (BadLetter b) x y = absurd (wrong-right job claim.events b (letter-wrong job claim.events b y) x.right)
 verdicts_are_one job claim (NotMaximal l) (BadLabel b) x y = absurd (wrong-right job claim.events b (label-wrong job claim.events b y) x.right)
-verdicts_are_one job claim (NotMaximal l) Yes x y = absurd (left-whole job claim.events l.0 x y.0)
+verdicts_are_one job claim (NotMaximal l) (Yes h) x y = absurd (left-whole job claim.events l.0 x y.0)
 verdicts_are_one job claim (NotMaximal l) (NotMaximal m) x y = ap (λ (n : ℕ). NotMaximal (record { 0 = n })) (left-one job claim.events l.0 m.0 x y)
 verdicts_are_one job claim (NotMaximal l) (WrongAnswer d) x y = absurd (left-whole job claim.events l.0 x y.0)
-verdicts_are_one job claim Yes (BadLetter b) x y = absurd (wrong-right job claim.events b (letter-wrong job claim.events b y) x.0.right)
-verdicts_are_one job claim Yes (BadLabel b) x y = absurd (wrong-right job claim.events b (label-wrong job claim.events b y) x.0.right)
-verdicts_are_one job claim Yes Yes x y = refl
-verdicts_are_one job claim Yes (NotMaximal l) x y = absurd (left-whole job claim.events l.0 y x.0)
-verdicts_are_one job claim Yes (WrongAnswer d) x y = absurd (y.2 (answers-one job d claim.answer y.1 x.1))
+verdicts_are_one job claim (Yes g) (BadLetter b) x y = absurd (wrong-right job claim.events b (letter-wrong job claim.events b y) x.0.right)
+verdicts_are_one job claim (Yes g) (BadLabel b) x y = absurd (wrong-right job claim.events b (label-wrong job claim.events b y) x.0.right)
+verdicts_are_one job claim (Yes g) (Yes h) x y =
+    ap Yes (hopes_are_one (loc_of job.lang.alphabet) job.lang.alphabet.processes (automaton job) (script_of job.scripts) claim.answer g h x.2 y.2)
+verdicts_are_one job claim (Yes g) (NotMaximal l) x y = absurd (left-whole job claim.events l.0 y x.0)
+verdicts_are_one job claim (Yes g) (WrongAnswer d) x y = absurd (y.2 (answers-one job d claim.answer y.1 x.1))
 verdicts_are_one job claim (WrongAnswer d) (BadLetter b) x y = absurd (wrong-right job claim.events b (letter-wrong job claim.events b y) x.0.right)
 verdicts_are_one job claim (WrongAnswer d) (BadLabel b) x y = absurd (wrong-right job claim.events b (label-wrong job claim.events b y) x.0.right)
-verdicts_are_one job claim (WrongAnswer d) Yes x y = absurd (x.2 (answers-one job d claim.answer x.1 y.1))
+verdicts_are_one job claim (WrongAnswer d) (Yes h) x y = absurd (x.2 (answers-one job d claim.answer x.1 y.1))
 verdicts_are_one job claim (WrongAnswer d) (NotMaximal l) x y = absurd (left-whole job claim.events l.0 y x.0)
 verdicts_are_one job claim (WrongAnswer d) (WrongAnswer e) x y = ap WrongAnswer (answers-one job d e x.1 y.1)

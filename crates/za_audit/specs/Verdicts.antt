@@ -10,6 +10,7 @@ use Rattle.za_script.specs.declared.answer.Answer.{Answer}
 use Rattle.za_script.specs.Answer.{IsAnswer}
 use Rattle.za_script.specs.ScriptLists.{script_of}
 use Rattle.za_script.specs.Scripts.{is_enabled}
+use Rattle.za_hope.specs.Jobs.{HasHope}
 use Rattle.za_lang.specs.Jobs.{JobData}
 use Rattle.za_claim.specs.declared.claim.Event.{Event}
 use Rattle.za_claim.specs.Claims.{ClaimData, event_letters, claimed_label}
@@ -76,7 +77,8 @@ IsAnswerOf job answer = IsAnswer (loc_of job.lang.alphabet) (automaton job) (scr
 
 -- the verdict on a claim
 abbrev pub IsVerdict : JobData → ClaimData → Audit → Type 0
-IsVerdict job claim Yes = AreWhole job claim.events × IsAnswerOf job claim.answer
+IsVerdict job claim (Yes hope) =
+    AreWhole job claim.events × IsAnswerOf job claim.answer × HasHope job claim.answer hope
 IsVerdict job claim (BadLetter at) = HasBadLetter job claim.events at
 IsVerdict job claim (BadLabel at) = HasBadLabel job claim.events at
 IsVerdict job claim (NotMaximal letter) = IsLeastLeft job claim.events letter.0

@@ -18,6 +18,7 @@ use std::alloc::Global;
 use za_alpha::{MOST_PROCESSES, OutOfMemory};
 use za_claim::{Claim, Event};
 use za_dfa::Dfa;
+use za_hope::hope_of;
 use za_lang::Job;
 use za_script::Answer;
 use za_views::Marks;
@@ -87,7 +88,7 @@ fn answer_of(whole: bool, accepted: bool) -> Answer
 }
 
 /// The verdict on events that are a run of the job to its end.
-fn answered(job: &Job, claim: &Claim, counts: &[usize]) -> Result<Audit, OutOfMemory>
+fn answered(alloc: Global, job: &Job, claim: &Claim, counts: &[usize]) -> Result<Audit, OutOfMemory>
     requires fit { FitAlphabet job.now.lang.table.alphabet job.now.scripts }
     requires alphabet { IsDistributed job.now.lang.table.alphabet }
     requires closed { IsTraceClosed (loc_of job.now.lang.table.alphabet) (automaton (data_of job.now)) }
@@ -99,7 +100,8 @@ fn answered(job: &Job, claim: &Claim, counts: &[usize]) -> Result<Audit, OutOfMe
     let state = state_after(&dfa, claim.events());
     let defined = answer_of(are_used_up(&job.scripts, counts), dfa.accepting(state));
     if are_same(defined, claim.answer()) {
-        Ok(Audit::Yes)
+        let hope = hope_of(alloc, &dfa, state, defined)?;
+        Ok(Audit::Yes { hope })
     } else {
         Ok(Audit::WrongAnswer { defined })
     }
@@ -107,6 +109,7 @@ fn answered(job: &Job, claim: &Claim, counts: &[usize]) -> Result<Audit, OutOfMe
 
 /// The verdict on a claim, from the empty word on.
 fn audited(
+    alloc: Global,
     job: &Job,
     claim: &Claim,
     marks: &mut Marks,
@@ -125,16 +128,17 @@ fn audited(
     if let Some(letter) = least_next(job.lang.alphabet(), &job.scripts, counts) {
         return Ok(Audit::NotMaximal { letter });
     }
-    answered(job, claim, counts)
+    answered(alloc, job, claim, counts)
 }
 
 /// The verdict on a claim about a job whose scripts fit its alphabet and whose language is
 /// trace-closed, as `close` of the completed DFA tells.
 ///
 /// The first event that isn't right is named, the letter tested first and then the label; else the least
-/// letter that can still fire; else the job's answer, where another is claimed. Each event is appended to
-/// marks by positions, compared with the next letters of its processes, and followed by one step of the
-/// DFA, so the time is linear in the number of events. Want of memory is the one free answer.
+/// letter that can still fire; else the job's answer, where another is claimed; else the claim is right,
+/// and of a stuck one it is told whether the run can still be saved. Each event is appended to marks by
+/// positions, compared with the next letters of its processes, and followed by one step of the DFA, so the
+/// time is linear in the number of events. Want of memory is the one free answer.
 #[tactic(auto, using(crate::proofs::VerdictLemmas::verdict_names))]
 pub fn audit(alloc: Global, job: &Job, claim: &Claim) -> Result<Audit, OutOfMemory>
     requires fit { FitAlphabet job.now.lang.table.alphabet job.now.scripts }
@@ -144,5 +148,5 @@ pub fn audit(alloc: Global, job: &Job, claim: &Claim) -> Result<Audit, OutOfMemo
 {
     let mut marks = Marks::new(alloc, job.lang.alphabet(), claim.events().len())?;
     let mut counts = [0; MOST_PROCESSES];
-    audited(job, claim, &mut marks, &mut counts)
+    audited(alloc, job, claim, &mut marks, &mut counts)
 }

@@ -1,21 +1,19 @@
--- A printed job followed by a printed claim about it is read back.
-use Rattle.std.proofs.Common.{◌≡◌, ◌∙◌, ap, sym, subst, ℕ, ◌+◌, ◌<◌, ◌≤◌, ◌^◌, suc, Bool, true, false, not, ◌&&◌, List, [], ◌∷◌, ◌++◌, length, map}
-use Rattle.std.proofs.Common.{take, drop, refl, append_assoc, length-append, inl, inr, Some, None, arith}
-use Rattle.std.specs.Prelude.{◌⊎◌, ◌==◌, nat_le, nat_lt, decimal, codes}
-use Rattle.std.specs.List.{list_all, range_with_len, AllByRecursion}
+-- A document followed by a printed claim about its job is read back.
+use Rattle.std.proofs.Common.{◌≡◌, ◌∙◌, ap, sym, subst, ℕ, ◌+◌, ◌<◌, ◌≤◌, ◌^◌, true, false, not, List, [], ◌∷◌, ◌++◌, length, map}
+use Rattle.std.proofs.Common.{take, drop, refl, append_assoc, length-append, Some, None, arith}
+use Rattle.std.specs.Prelude.{◌==◌, nat_le, nat_lt, decimal, codes}
+use Rattle.std.specs.List.{list_all, AllByRecursion}
 use Rattle.std.specs.Option.{option_or}
 use Rattle.std.proofs.lemmas.Bool.{and_parts}
 use Rattle.std.proofs.lemmas.Bool.Decides.{nat_tests}
-use Rattle.std.proofs.lemmas.List.{append-nil, map-append, take_at}
+use Rattle.std.proofs.lemmas.List.{append-nil, take_at}
 use Rattle.std.proofs.Math.Seq.{drop-append-add}
-use Rattle.std.proofs.lemmas.List.Concat.{flat_map-append}
 use Rattle.std.proofs.lemmas.List.Folds.{list_all-append}
 use Rattle.za_text.specs.Lines.{RawLine, lines_of}
-use Rattle.za_text.specs.Names.{is_name, is_name_byte, begins_with_digit}
-use Rattle.za_names.specs.Limits.{most_name_bytes}
+use Rattle.za_text.specs.Names.{is_name_byte}
 use Rattle.za_text.specs.Numbers.{numeral_value}
-use Rattle.za_text.specs.Printed.{line, number_line}
-use Rattle.za_text.specs.Divided.{first_is, bytes_of_lines, place_in, lines_through, lines_after}
+use Rattle.za_lang.proofs.PlainItems.{name_bytes}
+use Rattle.za_text.specs.Divided.{bytes_of_lines, lines_through, lines_after}
 use Rattle.za_text.proofs.DividingLemmas.{bytes_of_lines_of}
 use Rattle.za_alpha.specs.Alphabet.{DistributedAlphabet, IsDistributed, name_at, place_of}
 use Rattle.za_script.specs.declared.answer.Answer.{Answer}
@@ -25,90 +23,24 @@ use Rattle.za_write.specs.Events.{event_word}
 use Rattle.za_lang.specs.declared.version.Version.{Version}
 use Rattle.za_lang.specs.Documents as document
 use Rattle.za_lang.specs.Jobs.{JobData}
+use Rattle.za_lang.proofs.Saying.{said_version}
+use Rattle.za_lang.proofs.Sound.{documents_are_jobs}
 use Rattle.za_print.specs.Printed as job
-use Rattle.za_print.specs.Printed.{letter_line, row_line, script_line}
-use Rattle.za_print.proofs.PrintedLines.{CanPrint, is_inner, IsLine, printed_line, words_of_line, words_in_line, line_allowed, lines_of_text, name_word}
+use Rattle.za_print.proofs.PrintedLines.{CanPrint, is_inner, IsLine, printed_line, words_in_line, line_allowed, lines_of_text, name_word}
 use Rattle.za_print.proofs.Decimals.{numeral_value-decimal, word-decimal}
 use Rattle.za_print.proofs.Facts.{one_by_one, finds_letters}
 use Rattle.za_print.proofs.ReadBack as jobs
 use Rattle.za_claim.specs.declared.claim.Event.{Event}
 use Rattle.za_claim.specs.declared.order.Place.TheVariants.{AtEvents, AfterEnd}
-use Rattle.za_claim.specs.Audited.{is_end_line, lines_of_job, lines_of_claim, job_bytes, audited_job, claim_said}
+use Rattle.za_claim.specs.Audited.{is_end_line, lines_of_job, lines_of_claim, job_bytes, audited_fault, audited_job, audited_claim, claim_said}
 use Rattle.za_claim.specs.Claims.{ClaimData, AreClaimedEvents, HasLabel, event_letters}
 use Rattle.za_claim.specs.Grammar.{ToldClaim, told, claim_words_fault, claim_fault_at, claim_faults_from, event_fault, point_in, letter_in, label_in}
-use Rattle.za_claim.specs.Laws.{ClaimsAreReadBack}
+use Rattle.za_claim.specs.Laws.{ClaimsFollowDocuments, ClaimsAreReadBack}
 use Rattle.za_claim.specs.Limits.{most_events}
 use Rattle.za_claim.specs.Printed.{claim_line, fire_line, claim_lines, printed_claim}
 use Rattle.za_claim.specs.Private.Reading.{more_claimed}
 use Rattle.za_claim.proofs.Saying.{nothing_said, said_none, said_more}
-
--- ---- where the job ends
-
-module _ (test : RawLine → Bool) (l : RawLine) (ls : List RawLine) where
-  through-here : test l ≡ true → lines_through test (l ∷ ls) ≡ l ∷ []
-  through-here t = rw t refl
-
-  after-here : test l ≡ true → lines_after test (l ∷ ls) ≡ ls
-  after-here t = rw t refl
-
-  one-later : test l ≡ false → place_in test (l ∷ ls) + 1 ≡ suc (place_in test ls + 1)
-  one-later f = let e : place_in test (l ∷ ls) ≡ 1 + place_in test ls = rw f refl in omega arith
-
-  through-later : test l ≡ false → lines_through test (l ∷ ls) ≡ l ∷ lines_through test ls
-  through-later f = ap (λ n. take n (l ∷ ls)) (one-later f)
-
-  after-later : test l ≡ false → lines_after test (l ∷ ls) ≡ lines_after test ls
-  after-later f = ap (λ n. drop n (l ∷ ls)) (one-later f)
-
-abbrev is_end : List (List ℕ) → Bool
-is_end ws = first_is (codes "end") ws
-
--- of these lines the last one alone begins with `end`
-abbrev EndsOnce : List (List (List ℕ)) → Type 0
-EndsOnce [] = ⊥
-EndsOnce (ws ∷ wss) = ((is_end ws ≡ true) × (wss ≡ [])) ⊎ ((is_end ws ≡ false) × EndsOnce wss)
-
-goes_on : {X : Type 0} (f : X → List (List ℕ)) (xs : List X) (ys : List (List (List ℕ))) → ((x : X) → is_end (f x) ≡ false) → EndsOnce ys
-    → EndsOnce (map f xs ++ ys)
-goes_on f [] ys other h = h
-goes_on f (x ∷ xs) ys other h = inr (other x, goes_on f xs ys other h)
-
--- a job does
-job_ends : (j : JobData) → EndsOnce (job.job_lines j)
-job_ends j =
-    let letters = j.lang.alphabet.letters in
-    let ended : List (List (List ℕ)) = (codes "end" ∷ []) ∷ [] in
-    let scripted = job.script_lines j.naming j.lang.alphabet j.scripts ++ ended in
-    let tabled =
-    number_line (codes "states") j.lang.states ∷ number_line (codes "start") j.lang.start ∷ job.accept_line j.lang ∷ (job.row_lines j.lang ++ scripted) in
-    let scripts_end : EndsOnce scripted =
-    goes_on (script_line j.naming j.lang.alphabet.letters j.scripts) (range_with_len 0 j.lang.alphabet.processes) ended (λ p. refl) (inl (refl, refl)) in
-    let rows_end : EndsOnce (job.row_lines j.lang ++ scripted) = goes_on (row_line letters) (job.table_rows j.lang) scripted (λ r. refl) scripts_end in
-    let table_ends : EndsOnce tabled = inr (refl, inr (refl, inr (refl, rows_end))) in
-    inr (refl, inr (refl, goes_on (letter_line j.naming.names) letters tabled (λ l. refl) table_ends))
-
-end_is : (ws : List (List ℕ)) → IsLine ws → is_end_line (printed_line ws) ≡ is_end ws
-end_is ws h = ap is_end (words_of_line ws h)
-
-abbrev IsCut : List (List (List ℕ)) → List RawLine → Type 0
-IsCut wss back =
-    (lines_through is_end_line (map printed_line wss ++ back) ≡ map printed_line wss) × (lines_after is_end_line (map printed_line wss ++ back) ≡ back)
-
--- so a text is cut where they end
-cut_there : (wss : List (List (List ℕ))) (back : List RawLine) → AllByRecursion IsLine wss → EndsOnce wss → IsCut wss back
-cut_there [] back w h = absurd h
-cut_there (ws ∷ wss) back w (inl h) =
-    let t = end_is ws w.0 ∙ h.0 in
-    let none : map printed_line wss ++ back ≡ back = ap (λ xs. map printed_line xs ++ back) h.1 in (
-      through-here is_end_line (printed_line ws) (map printed_line wss ++ back) t ∙ ap (λ xs. printed_line ws ∷ map printed_line xs) (sym h.1),
-      after-here is_end_line (printed_line ws) (map printed_line wss ++ back) t ∙ none,
-    )
-cut_there (ws ∷ wss) back w (inr h) =
-    let f = end_is ws w.0 ∙ h.0 in
-    let later = cut_there wss back w.1 h.1 in (
-      through-later is_end_line (printed_line ws) (map printed_line wss ++ back) f ∙ ap (λ xs. printed_line ws ∷ xs) later.0,
-      after-later is_end_line (printed_line ws) (map printed_line wss ++ back) f ∙ later.1,
-    )
+use Rattle.za_lang.proofs.Ending.{IsFine, lines_again, both_fine, IsBlank, divided, not_yet, said_blank, blank_fine}
 
 -- ---- events as words
 
@@ -122,10 +54,6 @@ point_behind (b ∷ bs) rest h =
     let e = no_point b parts.0 in
     let later = point_behind bs rest parts.1 in
     rw (e, later) (omega arith)
-
-name_bytes : (name : List ℕ) → is_name name ≡ true → list_all is_name_byte name ≡ true
-name_bytes name h =
-    (and_parts (nat_le 1 (length name) && nat_le (length name) most_name_bytes && not (begins_with_digit name)) (list_all is_name_byte name) h).1
 
 below : (i n : ℕ) → i < n → nat_lt i n ≡ true
 below i n h = grind (arith, nat_tests)
@@ -290,42 +218,82 @@ module _ (v : Version) (alphabet : DistributedAlphabet) (whole : IsDistributed a
               (fires_run claim.answer [] claim.events ((codes "end" ∷ []) ∷ []) ended fit (let h = events.short in omega arith) last),
         )
 
-    claim_back : (first : ℕ) → (claim_faults_from v alphabet first [] (map printed_line (claim_lines alphabet claim)) ≡ None)
-        × (claim_said v alphabet (map printed_line (claim_lines alphabet claim)) ≡ claim)
-    claim_back first =
-        let run = runs_whole first [] nothing_said ended (claim_lines alphabet claim) claim_are_lines (said_none v alphabet) claim_runs refl in
+    claim_back : (first : ℕ) (before : List RawLine) → told v alphabet before ≡ nothing_said
+        → (claim_faults_from v alphabet first before (map printed_line (claim_lines alphabet claim)) ≡ None)
+        × (claim_said v alphabet (before ++ map printed_line (claim_lines alphabet claim)) ≡ claim)
+    claim_back first before none =
+        let run = runs_whole first before nothing_said ended (claim_lines alphabet claim) claim_are_lines none claim_runs refl in
         (run.0, ap (λ (s : ToldClaim). record { answer = s.answer; events = s.events }) run.1)
+
+-- ---- blank lines before it
+
+module _ (v : Version) (alphabet : DistributedAlphabet) where
+  blank_right : (s : ToldClaim) (l : RawLine) → IsBlank v l → claim_fault_at v alphabet s l ≡ None
+  unfolding claim_fault_at
+  blank_right s l h =
+      let whole = h.0.0 in
+      let allowed = h.0.1 in
+      let none = h.1 in
+      rw (whole, allowed, none) refl
+
+  told_blank : (before ls : List RawLine) → AllByRecursion (IsBlank v) ls → told v alphabet (before ++ ls) ≡ told v alphabet before
+  told_blank before [] h = ap (told v alphabet) (append-nil before)
+  told_blank before (l ∷ ls) h =
+      ap (told v alphabet) (sym (append_assoc before (l ∷ []) ls)) ∙ told_blank (before ++ l ∷ []) ls h.1 ∙ said_more v alphabet before l
+      ∙ ap (more_claimed alphabet (told v alphabet before)) h.0.1
+
+  faults_blank : (first : ℕ) (before ls rest : List RawLine) → AllByRecursion (IsBlank v) ls
+      → claim_faults_from v alphabet first before (ls ++ rest) ≡ claim_faults_from v alphabet first (before ++ ls) rest
+  faults_blank first before [] rest h = ap (λ b. claim_faults_from v alphabet first b rest) (sym (append-nil before))
+  faults_blank first before (l ∷ ls) rest h =
+      let here = blank_right (told v alphabet before) l h.0 in
+      rw here (faults_blank first (before ++ l ∷ []) ls rest h.1 ∙ ap (λ b. claim_faults_from v alphabet first b rest) (append_assoc before (l ∷ []) ls))
 
 -- ---- the text
 
+pub follow : ClaimsFollowDocuments
+follow bytes claim right events =
+    let all = lines_of bytes in
+    let v = document.version_of all in
+    let j = document.job_of bytes in
+    let alphabet = j.lang.alphabet in
+    let distributed = (documents_are_jobs bytes right).lang.distributed in
+    let d = divided v [] all (not_yet v) right in
+    let printed = printed_claim alphabet claim in
+    let claimed = map printed_line (claim_lines alphabet claim) in
+    let text = bytes ++ printed in
+    let fine = subst (AllByRecursion IsFine) (sym d.split) (both_fine d.front d.back d.fine (blank_fine v d.back d.blank)) in
+    let lines : lines_of text ≡ d.front ++ (d.back ++ claimed) =
+    ap (λ b. lines_of (b ++ printed)) (sym (bytes_of_lines_of bytes)) ∙ lines_again all printed fine
+    ∙ ap (λ ls. all ++ ls) (lines_of_text (claim_lines alphabet claim) (claim_are_lines v alphabet distributed claim events))
+    ∙ ap (λ ls. ls ++ claimed) d.split ∙ append_assoc d.front d.back claimed in
+    let cut : lines_of_job text ≡ d.front = ap (lines_through is_end_line) lines ∙ d.through (d.back ++ claimed) in
+    let later : lines_of_claim text ≡ d.back ++ claimed = ap (lines_after is_end_line) lines ∙ d.after (d.back ++ claimed) in
+    let job_lines : lines_of (job_bytes text) ≡ d.front =
+    ap (λ ls. lines_of (bytes_of_lines ls)) cut ∙ ap lines_of (sym (append-nil (bytes_of_lines d.front))) ∙ lines_again d.front [] d.fine ∙ append-nil d.front in
+    let version : document.version_of d.front ≡ v = sym (d.version d.back) ∙ ap document.version_of (sym d.split) in
+    let job_right : document.fault_of (job_bytes text) ≡ None =
+    ap (λ ls. document.faults_from (document.version_of ls) [] ls) job_lines ∙ ap (λ u. document.faults_from u [] d.front) version ∙ d.right in
+    let said_job : audited_job text ≡ j =
+    ap (λ ls. document.job_said (document.said (document.version_of ls) ls)) job_lines ∙ ap (λ u. document.job_said (document.said u d.front)) version
+    ∙ ap document.job_said (sym (said_blank v d.front d.back d.blank) ∙ ap (document.said v) (sym d.split)) in
+    let own : j.naming.version ≡ v = said_version v all in
+    let first = length (lines_of_job text) in
+    let none = told_blank v alphabet [] d.back d.blank ∙ said_none v alphabet in
+    let back = claim_back v alphabet distributed claim events first d.back none in (
+      ap (λ o. option_or o (claim_faults_from (audited_job text).naming.version (audited_job text).lang.alphabet first [] (lines_of_claim text))) job_right
+          ∙ ap (λ (x : JobData). claim_faults_from x.naming.version x.lang.alphabet first [] (lines_of_claim text)) said_job
+          ∙ ap (λ u. claim_faults_from u alphabet first [] (lines_of_claim text)) own
+          ∙ ap (claim_faults_from v alphabet first []) later ∙ faults_blank v alphabet first [] d.back claimed d.blank ∙ back.0,
+      said_job,
+      ap (λ (x : JobData). claim_said x.naming.version x.lang.alphabet (lines_of_claim text)) said_job
+          ∙ ap (λ u. claim_said u alphabet (lines_of_claim text)) own ∙ ap (claim_said v alphabet) later ∙ back.1,
+    )
+
+-- so is a printed job
 pub read_back : ClaimsAreReadBack
 read_back j claim whole events =
-    let v = j.naming.version in
-    let alphabet = j.lang.alphabet in
-    let front = job.job_lines j in
-    let back = claim_lines alphabet claim in
-    let text = job.printed j ++ printed_claim alphabet claim in
-    let front_are = jobs.job_are_lines j whole in
-    let back_are = claim_are_lines v alphabet whole.lang.distributed claim events in
-    let lines : lines_of text ≡ map printed_line front ++ map printed_line back =
-    ap lines_of (sym (flat_map-append line front back)) ∙ lines_of_text (front ++ back) (both front back front_are back_are)
-    ∙ map-append printed_line front back in
-    let cut = cut_there front (map printed_line back) front_are (job_ends j) in
-    let bytes : job_bytes text ≡ job.printed j =
-    ap (λ ls. bytes_of_lines (lines_through is_end_line ls)) lines ∙ ap bytes_of_lines cut.0
-    ∙ ap bytes_of_lines (sym (lines_of_text front front_are)) ∙ bytes_of_lines_of (job.printed j) in
-    let later : lines_of_claim text ≡ map printed_line back = ap (lines_after is_end_line) lines ∙ cut.1 in
-    let job_back = jobs.read_back j whole in
-    let said_job : audited_job text ≡ j = ap document.job_of bytes ∙ job_back.1 in
-    let right = claim_back v alphabet whole.lang.distributed claim events (length (lines_of_job text)) in (
-      ap (λ o. option_or o (claim_faults_from (audited_job text).naming.version (audited_job text).lang.alphabet (length (lines_of_job text)) [] (lines_of_claim text)))
-          (ap document.fault_of bytes ∙ job_back.0)
-          ∙ ap (λ (x : JobData). claim_faults_from x.naming.version x.lang.alphabet (length (lines_of_job text)) [] (lines_of_claim text)) said_job
-          ∙ ap (claim_faults_from v alphabet (length (lines_of_job text)) []) later ∙ right.0,
-      said_job,
-      ap (λ (x : JobData). claim_said x.naming.version x.lang.alphabet (lines_of_claim text)) said_job ∙ ap (claim_said v alphabet) later ∙ right.1,
-    )
-  where
-    both : (xs ys : List (List (List ℕ))) → AllByRecursion IsLine xs → AllByRecursion IsLine ys → AllByRecursion IsLine (xs ++ ys)
-    both [] ys h k = k
-    both (x ∷ xs) ys h k = (h.0, both xs ys h.1 k)
+    let back = jobs.read_back j whole in
+    let text = λ (x : JobData). job.printed j ++ printed_claim x.lang.alphabet claim in
+    subst (λ (x : JobData). (audited_fault (text x) ≡ None) × (audited_job (text x) ≡ x) × (audited_claim (text x) ≡ claim)) back.1
+    (follow (job.printed j) claim back.0 (subst (λ (x : JobData). AreClaimedEvents x.lang.alphabet claim.events) (sym back.1) events))

@@ -9,15 +9,14 @@ use Rattle.za_text.specs.Lines.{RawLine}
 use Rattle.za_alpha.specs.Alphabet.{DistributedAlphabet}
 use Rattle.za_alpha.specs.Words.{IsWord}
 use Rattle.za_script.specs.declared.answer.Answer.TheVariants.{Stuck}
-use Rattle.za_lang.specs.Answers.{fault_at}
+use Rattle.za_lang.specs.Answers.{fault_at, IsRefusedWith}
 use Rattle.za_lang.specs.declared.version.Version.{Version}
 use Rattle.za_lang.specs.Documents.{words_in, next_fault}
-use Rattle.za_lang.specs.Private.Gathering.{IsWrong}
+use Rattle.za_lang.specs.Gathering.{IsWrong}
 use Rattle.za_lang.specs.declared.fault.Refusal.{Refusal}
 use Rattle.za_lang.specs.declared.fault.Refusal.TheVariants.{Wrong, OutOfMemory}
 use Rattle.za_claim.specs.declared.claim.Event.{Event}
 use Rattle.za_claim.specs.declared.order.Place.TheVariants.{AtClaim}
-use Rattle.za_claim.specs.Audited.{IsRefusedWith}
 use Rattle.za_claim.specs.Claims.{AreClaimedEvents, HasLabel, event_letters}
 use Rattle.za_claim.specs.Grammar.{ToldClaim, told, claim_place_by, claim_place_after, answer_told_by, answer_in, events_by, events_in, claim_fault_at, claim_end_fault, claim_faults_from}
 use Rattle.za_claim.specs.Limits.{most_events}

@@ -1,12 +1,10 @@
 -- Audited texts: a job, and a claim about it.
-use Rattle.std.specs.Prelude.{◌≡◌, ℕ, Bool, List, [], length, codes, Option, Some}
+use Rattle.std.specs.Prelude.{ℕ, Bool, List, [], length, codes, Option}
 use Rattle.std.specs.Option.{option_or}
 use Rattle.za_alpha.specs.Alphabet.{DistributedAlphabet}
 use Rattle.za_text.specs.Lines.{RawLine, lines_of}
 use Rattle.za_text.specs.Divided.{begins_with, bytes_of_lines, lines_through, lines_after}
 use Rattle.za_text.specs.declared.kind.TextFault.{TextFault}
-use Rattle.za_lang.specs.declared.fault.JobFault.{JobFault}
-use Rattle.za_lang.specs.declared.fault.JobFault.TheVariants as job_fault
 use Rattle.za_lang.specs.declared.version.Version.{Version}
 use Rattle.za_lang.specs.Documents as document
 use Rattle.za_lang.specs.Jobs.{JobData}
@@ -48,8 +46,3 @@ audited_fault bytes =
     let after_job = length (lines_of_job bytes) in
     option_or (document.fault_of (job_bytes bytes))
     (claim_faults_from job.naming.version job.lang.alphabet after_job [] (lines_of_claim bytes))
-
--- a text is refused with this fault, unless memory was refused
-abbrev pub IsRefusedWith : Option TextFault → JobFault → Type 0
-IsRefusedWith fault (job_fault.Text seen) = fault ≡ Some seen
-IsRefusedWith fault job_fault.OutOfMemory = Unit {0}

@@ -12,6 +12,6 @@ mod reading;
 mod tests;
 
 pub use claim::{Claim, Event, MOST_EVENTS};
-pub use laws::printed_claims_are_read_back;
+pub use laws::{claims_follow_documents, printed_claims_are_read_back};
 pub use print::{answer_word, print_claim};
 pub use reading::{Audited, read_audited};

@@ -1,11 +1,11 @@
 ghost use Rattle.std.specs.Prelude.{◌≡◌, ◌<◌, ◌≤◌, None, OnOk, IfOk, length, MatchResult, []};
 ghost use Rattle.std.specs.Option.{option_or};
 ghost use Rattle.za_text.specs.Lines.{lines_of, raw};
-ghost use Rattle.za_lang.specs.Answers.{data_of};
+ghost use Rattle.za_lang.specs.Answers.{data_of, IsRefusedWith};
 ghost use Rattle.za_lang.specs.Documents.{words_in};
 ghost use Rattle.za_lang.specs.Jobs.{IsJob};
-ghost use Rattle.za_lang.specs.Private.Gathering.{IsWrong};
-ghost use Rattle.za_claim.specs.Audited.{audited_claim, claim_said, audited_fault, audited_job, IsRefusedWith};
+ghost use Rattle.za_lang.specs.Gathering.{IsWrong};
+ghost use Rattle.za_claim.specs.Audited.{audited_claim, claim_said, audited_fault, audited_job};
 ghost use Rattle.za_claim.specs.Claims.{AreClaimedEvents};
 ghost use Rattle.za_claim.specs.Grammar.{claim_faults_from, claim_fault_at, claim_order_fault, claim_own_fault};
 ghost use Rattle.za_claim.specs.Private.Reading.{more_claimed, more_claimed_by, said_so_far};
@@ -86,7 +86,8 @@ impl Reading {
         ensures taken { let s = said_so_far self.old in
             let fault = claim_fault_at version alphabet.now s (raw line.now) in
             MatchResult result
-            (λ _. (fault ≡ None) × (said_so_far self.new ≡ more_claimed alphabet.now s (words_in version (raw line.now))))
+            (λ _. (fault ≡ None)
+            × (said_so_far self.new ≡ more_claimed alphabet.now s (words_in version (raw line.now))))
             (IsWrong fault) }
     {
         if !line.whole {

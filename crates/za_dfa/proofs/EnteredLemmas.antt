@@ -17,7 +17,7 @@ use Rattle.za_dfa.specs.declared.rows.Row.{Row}
 use Rattle.za_dfa.specs.Partials.{blank, PartialDfa, target_of, is_other, is_whole, entered}
 use Rattle.za_dfa.specs.Tables.{step_of}
 use Rattle.za_dfa.specs.Rows.{is_at, target_in, has_other, row_fault, rows_fault, cells_of, partial_of, completed}
-use Rattle.za_dfa.specs.Private.Entered.{AreEntered}
+use Rattle.za_dfa.specs.Entered.{AreEntered}
 use Rattle.za_dfa.specs.Private.Views.{without_targets}
 use Rattle.za_dfa.proofs.RowLemmas.{right_row, fault_by_other}
 use Rattle.za_dfa.proofs.Completing.{step_of_completion}

@@ -7,3 +7,4 @@ pub mod Closed
 pub mod Rows
 pub mod Laws
 pub mod Private
+pub mod Entered

@@ -1,3 +1,2 @@
 pub mod Diamonds
-pub mod Entered
 pub mod Views

@@ -1,7 +1,7 @@
 ghost use Rattle.std.specs.Prelude.{◌≡◌, ◌<◌, ◌++◌, ◌∷◌, [], All, length, unwrap_or, IfNone, MatchResult};
 ghost use Rattle.za_dfa.specs.Partials.{IsPartial};
 ghost use Rattle.za_dfa.specs.Rows.{dfa_fault, has_other, partial_of, row_fault, rows_fault};
-ghost use Rattle.za_dfa.specs.Private.Entered.{AreEntered};
+ghost use Rattle.za_dfa.specs.Entered.{AreEntered};
 
 use crate::fault::{DfaFault, TwoTargets};
 use crate::partial::Partial;

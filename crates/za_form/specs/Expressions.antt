@@ -5,8 +5,7 @@ use Rattle.std.specs.List.{list_any}
 use Rattle.std.specs.Option.{option_or}
 use Rattle.std.specs.Str.{bytes_eq}
 use Rattle.za_alpha.specs.Limits.{most_letters}
-use Rattle.za_alpha.specs.Alphabet.{DistributedAlphabet, NamedLetter, place_of}
-use Rattle.za_text.specs.Words.{words_of}
+use Rattle.za_alpha.specs.Alphabet.{NamedLetter, place_of}
 use Rattle.za_expression.specs.declared.sign.Sign.{Sign}
 use Rattle.za_expression.specs.declared.sign.Sign.TheVariants.{Name, Empty, Open, Close, Begin, End}
 use Rattle.za_expression.specs.declared.sign.Sign.TheVariants.{Bar, Times, Ampersand, Bang}
@@ -63,10 +62,10 @@ named_letter Bang = most_letters
 abbrev pub letter_at : List Sign → ℕ → ℕ
 letter_at signs p = named_letter (slice_index_or (Empty ∷ signs) p Empty)
 
--- the tokens of the text, one line's, are the signs, and these are a form
-pub record IsExpressionOf (alphabet : DistributedAlphabet) (text : List ℕ) (signs : List Sign) : Type 0 where
-  pub few : length (words_of text) ≤ most_signs
-  pub each : AreSigns alphabet.letters (words_of text) signs
+-- the tokens are the signs over these letters, and these are a form
+pub record IsExpressionOf (letters : List NamedLetter) (tokens : List (List ℕ)) (signs : List Sign) : Type 0 where
+  pub few : length tokens ≤ most_signs
+  pub each : AreSigns letters tokens signs
   pub form : (f : Form) × IsForm 1 signs f
 
 -- the tokens are signs that are no form
@@ -75,11 +74,10 @@ pub record IsNoForm (letters : List NamedLetter) (tokens : List (List ℕ)) : Ty
   pub each : AreSigns letters tokens signs
   pub none : (f : Form) → ¬ IsForm 1 signs f
 
--- what each fault of a text says: want of memory says nothing
-abbrev pub IsFormFault : DistributedAlphabet → List ℕ → FormFault → Type 0
-IsFormFault alphabet text Full = most_signs < length (words_of text)
-IsFormFault alphabet text NoSuchLetter =
-    (length (words_of text) ≤ most_signs) × IsTrue (list_any (is_unknown alphabet.letters) (words_of text))
-IsFormFault alphabet text NotAForm =
-    (length (words_of text) ≤ most_signs) × IsNoForm alphabet.letters (words_of text)
-IsFormFault alphabet text OutOfMemory = Unit {0}
+-- what each fault of tokens over these letters says: want of memory says nothing
+abbrev pub IsFormFault : List NamedLetter → List (List ℕ) → FormFault → Type 0
+IsFormFault letters tokens Full = most_signs < length tokens
+IsFormFault letters tokens NoSuchLetter =
+    (length tokens ≤ most_signs) × IsTrue (list_any (is_unknown letters) tokens)
+IsFormFault letters tokens NotAForm = (length tokens ≤ most_signs) × IsNoForm letters tokens
+IsFormFault letters tokens OutOfMemory = Unit {0}

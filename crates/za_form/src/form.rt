@@ -1,4 +1,5 @@
 ghost use Rattle.std.specs.Prelude.{◌≡◌, ◌≤◌, MatchResult, length};
+ghost use Rattle.za_text.specs.Words.{words_of};
 ghost use Rattle.za_expression.specs.Limits.{most_signs};
 ghost use Rattle.za_form.specs.Expressions.{IsExpressionOf, IsFormFault, IsExpression};
 ghost use Rattle.za_expression.specs.Grammar.{IsForm};
@@ -42,8 +43,8 @@ impl Form {
     /// exactly where the tokens aren't a form. Want of memory is the one free answer.
     pub fn parse(alloc: Global, alphabet: &Alphabet, text: &[u8]) -> Result<Form, FormFault>
         ensures { MatchResult result
-            (λ signs. IsExpressionOf alphabet.now text.now signs)
-            (λ fault. IsFormFault alphabet.now text.now fault) }
+            (λ signs. IsExpressionOf alphabet.now.letters (words_of text.now) signs)
+            (λ fault. IsFormFault alphabet.now.letters (words_of text.now) fault) }
     {
         if is_full(text) {
             return Err(FormFault::Full);

@@ -5,7 +5,7 @@ use Rattle.std.proofs.lemmas.List.{length-map}
 use Rattle.std.proofs.lemmas.List.Elements.{All-nil, All-cons}
 use Rattle.std.proofs.lemmas.List.FromFn.{length-range_with_len, map-range_with_len_more}
 use Rattle.za_alpha.specs.Words.{IsWord}
-use Rattle.za_gen.specs.Drawn.{stepped, register, draw_of, letter_of, drawn}
+use Rattle.za_gen.specs.Drawn.{stepped, register, draw_of, letter_drawn, drawn}
 
 pub register-start : (s : ℕ) → register s 0 ≡ s
 unfolding register
@@ -16,13 +16,13 @@ unfolding register
 register-more s n = ap (register s) (add-one n)
 
 abbrev letter_at : ℕ → ℕ → ℕ
-letter_at s k = letter_of (draw_of (register s (k + 1)))
+letter_at s k = letter_drawn (draw_of (register s (k + 1)))
 
 pub drawn-start : (s : ℕ) → drawn s 0 ≡ []
 unfolding drawn
 drawn-start s = refl
 
-pub drawn-more : (s n : ℕ) → drawn s (n + 1) ≡ drawn s n ++ letter_of (draw_of (register s (n + 1))) ∷ []
+pub drawn-more : (s n : ℕ) → drawn s (n + 1) ≡ drawn s n ++ letter_drawn (draw_of (register s (n + 1))) ∷ []
 unfolding drawn
 drawn-more s n = map-range_with_len_more (letter_at s) 0 n n (omega arith)
 
@@ -38,5 +38,5 @@ pub drawn-word : (s n : ℕ) → IsWord 8 (drawn s n)
 unfolding drawn
 drawn-word s n = all-map (letter_at s) 8 (λ k. small (draw_of (register s (k + 1)))) (range_with_len 0 n)
   where
-    small : (d : ℕ) → letter_of d < 8
+    small : (d : ℕ) → letter_drawn d < 8
     small d = omega arith

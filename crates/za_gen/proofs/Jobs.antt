@@ -12,7 +12,7 @@ use Rattle.za_lang.proofs.Naming.{numbered_naming}
 use Rattle.za_gen.specs.Limits.{letters_drawn}
 use Rattle.za_gen.specs.Drawn.{drawn}
 use Rattle.za_gen.specs.Generated.{generated_alphabet, generated_dfa, generated_scripts, generated_job, next_state}
-use Rattle.za_gen.specs.Laws.{AreJobs, AreClosed, AreAccepted, FireAll, AreFew}
+use Rattle.za_gen.specs.Laws.{AreJobs, AreClosed, AreAccepted, FireAll, AreFewLetters}
 use Rattle.za_gen.proofs.Draws.{drawn-word, length-drawn}
 use Rattle.za_gen.proofs.Tables.{generated-complete, generated-closed}
 use Rattle.za_gen.proofs.Fitting.{generated-fit, scripts-size}
@@ -59,7 +59,7 @@ pub fire_all : FireAll
 unfolding generated_job
 fire_all number = all-fire (drawn number letters_drawn) (drawn-word number letters_drawn) ∙ length-drawn number letters_drawn
 
-pub are_few : AreFew
+pub are_few : AreFewLetters
 unfolding generated_job
 are_few number =
     let few = generated-few (drawn number letters_drawn) (drawn-word number letters_drawn) in

@@ -16,9 +16,9 @@ abbrev pub draw_of : ℕ → ℕ
 draw_of s = s / 2 ^ 33
 
 -- one of eight letters
-abbrev pub letter_of : ℕ → ℕ
-letter_of draw = draw % 8
+abbrev pub letter_drawn : ℕ → ℕ
+letter_drawn draw = draw % 8
 
 -- the first n letters: letter k is that of the draw number k + 1
 unfoldable pub drawn : ℕ → ℕ → List ℕ
-drawn number n = map (λ k. letter_of (draw_of (register number (k + 1)))) (range_with_len 0 n)
+drawn number n = map (λ k. letter_drawn (draw_of (register number (k + 1)))) (range_with_len 0 n)

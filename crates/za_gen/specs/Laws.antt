@@ -35,5 +35,5 @@ FireAll =
     length (weave_of job.lang.alphabet job.scripts) ≡ letters_drawn
 
 -- no letter is in more than two scripts
-abbrev pub AreFew : Type 0
-AreFew = (number : ℕ) → total_of (generated_job number).scripts ≤ 2 * letters_drawn
+abbrev pub AreFewLetters : Type 0
+AreFewLetters = (number : ℕ) → total_of (generated_job number).scripts ≤ 2 * letters_drawn

@@ -2,7 +2,7 @@
 
 ghost use Rattle.std.specs.Prelude.{◌≡◌, ◌<◌, IfOk};
 ghost use Rattle.za_alpha.specs.Words.{IsWord};
-ghost use Rattle.za_gen.specs.Drawn.{draw_of, drawn, letter_of, stepped};
+ghost use Rattle.za_gen.specs.Drawn.{draw_of, drawn, letter_drawn, stepped};
 
 use std::alloc::Global;
 use za_alpha::{Letter, OutOfMemory, Word};
@@ -16,8 +16,8 @@ fn stepped(s: u64) -> u64
 }
 
 /// The letter of the draw that left this register.
-fn letter_of(s: u64) -> Letter
-    ensures value { result.0 ≡ letter_of (draw_of s) }
+fn letter_drawn(s: u64) -> Letter
+    ensures value { result.0 ≡ letter_drawn (draw_of s) }
     ensures small { result.0 < 8 }
 {
     let draw = s >> 33;
@@ -33,7 +33,7 @@ pub(crate) fn drawn(alloc: Global, number: u32, count: usize) -> Result<Word, Ou
     let mut register = u64::from(number);
     for _ in 0..count {
         register = stepped(register);
-        word.push(letter_of(register))?;
+        word.push(letter_drawn(register))?;
     }
     Ok(word)
 }

@@ -1,6 +1,6 @@
 //! Laws of generated jobs.
 
-ghost use Rattle.za_gen.specs.Laws.{AreJobs, AreClosed, AreAccepted, FireAll, AreFew};
+ghost use Rattle.za_gen.specs.Laws.{AreJobs, AreClosed, AreAccepted, FireAll, AreFewLetters};
 
 /// For each number the generated job is a job with a trace-closed language, and its answer is accept. Its
 /// weave has all 20,000 letters that were drawn, and its scripts have at most 40,000 letters.
@@ -9,5 +9,5 @@ pub fn generated_jobs_are_accepted()
     ensures closed { AreClosed }
     ensures accepted { AreAccepted }
     ensures all { FireAll }
-    ensures few { AreFew }
+    ensures few { AreFewLetters }
 {}

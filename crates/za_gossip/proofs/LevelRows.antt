@@ -45,7 +45,7 @@ pub length-row : (level : Level) (n : ℕ) (known : Ids) → length (level_of le
 length-row level n known = ap length (row-blocks level n known) ∙ length-blocks (block level n known) (width level n) (length-block level n known) n
 
 -- and has their entries
-row-entry : (level : Level) (n : ℕ) (known : Ids) (q j : ℕ) → q < n → j < width level n →
+pub row-entry : (level : Level) (n : ℕ) (known : Ids) (q j : ℕ) → q < n → j < width level n →
     get_or (level_of level (rows_of n known)) (q * width level n + j) 0 ≡ get_or (block level n known q) j 0
 row-entry level n known q j lq lj =
     ap (λ xs. get_or xs (q * width level n + j) 0) (row-blocks level n known) ∙ entry-of-block (block level n known) (width level n) (length-block level n known) n q j lq lj

@@ -10,3 +10,4 @@ pub mod LevelRows
 pub mod Sizes
 pub mod Advanced
 pub mod Renamed
+pub mod Columns

@@ -13,7 +13,7 @@ ghost use Rattle.za_gossip.specs.Private.Sources.{IsSource, source_entry, joined
 use crate::gossip::{Gossip, Level};
 use crate::news::newest;
 use za_alpha::{Alphabet, Letter, MOST_PROCESSES};
-use za_ids::{EventId, id_of, least_free};
+use za_ids::{EventId, id_of, least_free_among};
 
 /// Writes into `into` what the participants of `a` keep after an event of `a`, which is the same for
 /// each of them, and answers the label of the event (Mukund and Sohoni 1997). `inputs` has what each
@@ -30,7 +30,7 @@ pub fn advance(alphabet: &Alphabet, a: Letter, inputs: &[Gossip], into: &mut Gos
         into.new ≡ rows_after (loc_of alphabet.now) alphabet.now.processes (w ++ a.0 ∷ []) x }
 {
     let n = alphabet.processes();
-    let label = least_free(n, a, inputs[0].entries(Level::Tertiary));
+    let label = least_free_among(n, a, alphabet.loc(a), inputs[0].entries(Level::Tertiary));
     let event = [id_of(n, a, label)];
     let mut sources = [None; MOST_PROCESSES];
     set_sources(alphabet, a, inputs, &mut sources);

@@ -89,7 +89,8 @@ pub record Kept (job : Given) (s : State Slot View) : Type 0 where
   pub out : word ≡ 1 → get_elem? s.homes 0 ≡ some none
   pub holder :
       word ≡ 1 →
-      (v : View) × (get_elem? s.views turn ≡ some v) × (v.holds ≡ true) × ((n : Note) × ((ns : List Note) × (v.notes ≡ n ∷ ns)))
+      (v : View) × (get_elem? s.views turn ≡ some v) × (v.holds ≡ true)
+      × ((n : Note) × ((ns : List Note) × (v.notes ≡ n ∷ ns)))
   pub of_job : table.given ≡ job
   pub fit : IsFit (machine_of job)
   pub reached : IsMachineState (machine table) table.state

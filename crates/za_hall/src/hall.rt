@@ -5,6 +5,7 @@ ghost use Rattle.za_hall.specs.Private.Serving.{letter_number};
 use crate::bell::Bell;
 use crate::view::Known;
 use atomic_table::{Join, Split, Table as Board, TableRule};
+use crossbeam_utils::CachePadded;
 use std::alloc::Global;
 use std::marker::Model;
 use std::snapshot::Snapshot;
@@ -52,7 +53,7 @@ pub(crate) struct HallParts {
     // The table's automaton, for transitions that are computed while others have the table.
     pub(crate) closed: Closed,
     // One for each process, for its desk to wait on.
-    pub(crate) bells: Vec<Bell>,
+    pub(crate) bells: Vec<CachePadded<Bell>>,
     ghost sized: { (board.shared.table_id.words ≡ 1) × (board.shared.table_id.slots ≡ 1) },
     ghost of_job: { (processes ≡ board.shared.key.value.given.dfa.alphabet.processes) × (0 < processes)
         × (closed ≡ board.shared.key.value.given.dfa) },

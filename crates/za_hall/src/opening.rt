@@ -2,18 +2,20 @@
 ghost use Rattle.std.specs.Prelude.{◌≡◌, ◌∷◌, ◌<◌, List, IfOk, false, length};
 ghost use Rattle.za_machine.specs.Machine.{initial};
 ghost use Rattle.za_local.specs.Locals.{HasShape};
+ghost use Rattle.za_table.specs.Tables.{IsTable};
 ghost use Rattle.za_hall.specs.Views.{Note};
 ghost use Rattle.za_hall.specs.Own.{machine};
-ghost use Rattle.za_hall.specs.Steps.{blank, blank_notes, left_of};
+ghost use Rattle.za_hall.specs.Steps.{blank, blank_notes, first_view, left_of};
 ghost use Rattle.za_hall.specs.Halls.{IsFresh, AreDesks};
 ghost use Rattle.za_hall.specs.Private.Serving.{FitsDfa};
 ghost use Rattle.za_hall.specs.Private.Inside.{hall_of};
 
 use crate::bell::Bell;
 use crate::desk::{Desk, DeskParts};
-use crate::hall::{Hall, HallParts, Opening};
+use crate::hall::{Hall, HallParts, HallRule, Opening};
 use crate::view::Known;
 use atomic_table::{Seat, Table as Board};
+use crossbeam_utils::CachePadded;
 use std::alloc::Global;
 use std::snapshot::Snapshot;
 use za_alpha::OutOfMemory;
@@ -76,14 +78,41 @@ fn cut_all(
 }
 
 /// A bell for each process.
-fn bells(alloc: Global, count: usize) -> Result<Vec<Bell>, OutOfMemory>
+fn bells(alloc: Global, count: usize) -> Result<Vec<CachePadded<Bell>>, OutOfMemory>
     ensures { IfOk result (λ bells. length bells.items ≡ count) }
 {
     let mut bells = Vec::with_capacity(alloc, count)?;
     for _ in 0..count {
-        bells.push_reserved(Bell::new());
+        bells.push_reserved(CachePadded::new(Bell::new()));
     }
     Ok(bells)
+}
+
+/// The board on which the table lies, and a seat for all processes.
+fn board_of(
+    alloc: Global,
+    table: Table,
+) -> Result<
+    (
+        Board<Option<Table>, Known, Snapshot<Table>, HallRule, Global>,
+        Seat<Option<Table>, Known>,
+    ),
+    OutOfMemory,
+>
+    requires new { table.state ≡ initial (machine table) }
+    requires table { IsTable table }
+    ensures sized { IfOk result (λ r. (r.0.shared.table_id.words ≡ 1) × (r.0.shared.table_id.slots ≡ 1)) }
+    ensures key { IfOk result (λ r. r.0.shared.key.value ≡ table) }
+    ensures board { IfOk result (λ r. r.1.table_id ≡ r.0.shared.table_id) }
+    ensures seat { IfOk result (λ r. r.1.me.0 ≡ first_view table) }
+{
+    let key = Snapshot::of(&table);
+    let mut slots = Vec::with_capacity(alloc, 1)?;
+    slots.push_reserved(Some(table));
+    match Board::new(alloc, &[0], slots, &key) {
+        Ok(made) => Ok(made),
+        Err(_) => Err(OutOfMemory),
+    }
 }
 
 /// The hall, and a seat for all processes.
@@ -101,12 +130,7 @@ fn seated(
     let processes = table.closed().dfa().alphabet().processes();
     let closed = table.closed().copy()?;
     let bells = bells(alloc, processes)?;
-    let key = Snapshot::of(&table);
-    let mut slots = Vec::with_capacity(alloc, 1)?;
-    slots.push_reserved(Some(table));
-    let Ok((board, seat)) = Board::new(alloc, &[0], slots, &key) else {
-        return Err(OutOfMemory);
-    };
+    let (board, seat) = board_of(alloc, table)?;
     let hall = HallParts {
         board,
         processes,

@@ -23,41 +23,31 @@ impl Play<Option<Table>, Known> for Giving {
     ghost then = { λ _. Gave };
 }
 
-/// Takes the table, or says what the word was.
-pub(crate) fn take(hall: &HallParts, seat: &mut Seat<Option<Table>, Known>) -> Result<Table, u64>
+/// Takes the turn, with the table, or says what the word was.
+pub(crate) fn take(hall: &HallParts, seat: &mut Seat<Option<Table>, Known>) -> Result<(), u64>
     requires hall { seat.old.table_id ≡ hall.now.board.shared.table_id }
     requires note { (n : Note) × (seat.old.me.0.notes ≡ n ∷ []) }
     requires free { (seat.old.me.0.holds ≡ false) × (seat.old.me.1 ≡ []) }
     ensures hall { seat.new.table_id ≡ seat.old.table_id }
     ensures found { MatchResult result
-        (λ t. (seat.new.me ≡ (tried 0 t seat.old.me.0, (0, None) ∷ [])) × Taken t seat.old.me.0)
+        (λ _. (t : TableState) × (seat.new.me ≡ (tried 0 t seat.old.me.0, (0, Some t) ∷ [])) × Taken t seat.old.me.0)
         (λ n. ((n ≡ 1) ⊎ (n ≡ 2)) × ((t : TableState) × (seat.new.me ≡ (tried n t seat.old.me.0, [])))) }
 {
-    let shared = &hall.board.shared;
-    let found = shared.compare_exchange::<Taking>(seat, 0, 0, 1);
-    if found != 0 {
-        return Err(found);
-    }
-    Ok(shared.exchange(seat, 0, None).unwrap())
+    let found = hall.board.shared.compare_exchange::<Taking>(seat, 0, 0, 1);
+    if found == 0 { Ok(()) } else { Err(found) }
 }
 
-/// Gives the table back, with the word 2 if it is over.
-pub(crate) fn give(
-    hall: &HallParts,
-    seat: &mut Seat<Option<Table>, Known>,
-    table: Table,
-    over: bool,
-)
+/// Gives the turn back, with the word 2 if the table is over.
+pub(crate) fn give(hall: &HallParts, seat: &mut Seat<Option<Table>, Known>, over: bool)
     requires hall { seat.old.table_id ≡ hall.now.board.shared.table_id }
-    requires holds { (seat.old.me.0.holds ≡ true) × (seat.old.me.1 ≡ (0, None) ∷ []) }
-    requires own { (n : Note) × (seat.old.me.0.notes ≡ n ∷ []) × Own n.number seat.old.me.0.took table }
-    requires over { IsTrue over ↔ IsOver (machine table) table.state }
+    requires holds { seat.old.me.0.holds ≡ true }
+    requires own { (n : Note) × (t : TableState) × (seat.old.me.0.notes ≡ n ∷ [])
+        × (seat.old.me.1 ≡ (0, Some t) ∷ []) × Own n.number seat.old.me.0.took t
+        × (IsTrue over ↔ IsOver (machine t) t.state) }
     ensures hall { seat.new.table_id ≡ seat.old.table_id }
-    ensures given { seat.new.me ≡ (given_back (cond over 2 0) table seat.old.me.0, []) }
+    ensures given { (t : TableState) → seat.old.me.1 ≡ (0, Some t) ∷ [] →
+        seat.new.me ≡ (given_back (cond over 2 0) t seat.old.me.0, []) }
 {
     let word = if over { 2 } else { 0 };
-    let shared = &hall.board.shared;
-    let empty = shared.exchange(seat, 0, Some(table));
-    let None = empty else { unreachable!() };
-    shared.store::<Giving>(seat, 0, word);
+    hall.board.shared.store::<Giving>(seat, 0, word);
 }

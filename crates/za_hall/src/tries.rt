@@ -16,6 +16,7 @@ use crate::hall::{Hall, HallParts};
 use crate::serving::{Served, serve};
 use crate::steps::{give, take};
 use crate::turn::Turn;
+use crossbeam_utils::Backoff;
 use std::sync::Wait;
 use za_alpha::Letter;
 use za_dfa::Closed;
@@ -105,16 +106,16 @@ impl DeskParts {
         ensures desk { IsSameDesk (desk_of self.old) (desk_of self.new) }
         ensures tried { Try self.old.process (desk_of self.old).view result (desk_of self.new).view }
     {
-        let mut table = match take(hall, &mut self.seat) {
-            Ok(table) => table,
-            Err(found) => {
-                self.over = found == 2;
-                return Some(if found == 2 { Turn::Over } else { Turn::Busy });
-            }
-        };
+        if let Err(found) = take(hall, &mut self.seat) {
+            self.over = found == 2;
+            return Some(if found == 2 { Turn::Over } else { Turn::Busy });
+        }
         let settled = self.letter;
+        let Some(table) = self.seat.slot_mut(&hall.board.shared, 0) else {
+            unreachable!()
+        };
         let served = serve(
-            &mut table,
+            table,
             self.process,
             self.told,
             self.letter,
@@ -124,7 +125,7 @@ impl DeskParts {
         self.told = table.count(self.process);
         self.over = table.over();
         self.ended = table.ended(self.process);
-        give(hall, &mut self.seat, table, self.over);
+        give(hall, &mut self.seat, self.over);
         hall.tell(settled, self.over, self.process);
         self.letter = taken_up(&served);
         compute(&hall.closed, self.letter, &self.bench, &mut self.made);
@@ -204,12 +205,13 @@ impl Desk {
     {
         let had_ended = self.parts.ended;
         let bell = self.parts.bell_of(&hall.parts);
+        let backoff = Backoff::new();
         for _ in rt.forever() {
             let heard = bell.count();
             let turn = self.try_step(hall);
             match pause_after(turn, had_ended) {
                 Pause::None => return turn,
-                Pause::Short => std::thread::yield_now(),
+                Pause::Short => backoff.snooze(),
                 Pause::Long => bell.wait(rt, heard),
             }
         }

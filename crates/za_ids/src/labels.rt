@@ -1,15 +1,18 @@
-ghost use Rattle.std.specs.Prelude.{◌≡◌, ℕ, ◌+◌, ◌^◌, ◌<◌, ◌≤◌, ◌↔◌, length, replicate, slice_index_or};
+ghost use Rattle.std.specs.Prelude.{◌≡◌, ℕ, ◌+◌, ◌*◌, ◌^◌, ◌<◌, ◌≤◌, ◌↔◌, length, replicate, slice_index_or};
 ghost use Rattle.std.specs.Prelude.{false, not};
 ghost use Rattle.std.specs.Prelude.{IsTrue, IsFalse};
 ghost use Rattle.za_alpha.specs.Limits.{most_processes, most_letters};
 ghost use Rattle.za_alpha.specs.Words.{has};
+ghost use Rattle.za_alpha.specs.Procs.{members};
 ghost use Rattle.za_alpha.specs.Search.{least};
 ghost use Rattle.za_order.specs.Labels.{number_of};
 ghost use Rattle.za_ids.specs.Limits.{most_labels};
 ghost use Rattle.za_ids.specs.Numbers.{event_numbers};
+ghost use Rattle.za_ids.specs.Columns.{AreInColumns};
+ghost use Rattle.za_ids.specs.Private.Marked.{HasMarked};
 
 use crate::ids::{EventId, id_of, label_count};
-use za_alpha::{Letter, MOST_PROCESSES};
+use za_alpha::{Letter, MOST_PROCESSES, Procs};
 
 /// How many labels a letter has with the most processes.
 pub const MOST_LABELS: usize = MOST_PROCESSES * MOST_PROCESSES * MOST_PROCESSES + 1;
@@ -48,6 +51,65 @@ fn mark_labels(n: usize, a: Letter, ids: &[EventId], taken: &mut [bool; MARKS])
     let labels = label_count(n);
     for id in ids {
         taken[place_from(first, labels, *id)] = true;
+    }
+}
+
+/// The same, where `ids` is a table of numbers with `n` columns, and numbers with the letter stand in the
+/// columns of these processes alone.
+pub fn least_free_among(n: usize, a: Letter, processes: Procs, ids: &[EventId]) -> u16
+    requires some_process { 1 ≤ n }
+    requires few_processes { n ≤ most_processes }
+    requires letter { a.0 < most_letters }
+    requires numbers { length ids.now ≡ n * n * n }
+    requires columns { AreInColumns n a.0 (members processes) (event_numbers ids.now) }
+    ensures bounded { result ≤ n ^ 3 }
+    ensures free { IsFalse (has (event_numbers ids.now) (number_of n a.0 result)) }
+    ensures least { (k : ℕ) → k < result → IsTrue (has (event_numbers ids.now) (number_of n a.0 k)) }
+{
+    let mut taken = [false; MARKS];
+    mark_columns(n, a, processes, ids, &mut taken);
+    first_unmarked(taken.as_slice()) as u16
+}
+
+/// Marks each label at most the cube of `n` whose number with the letter is in `ids`; none is marked before.
+fn mark_columns(n: usize, a: Letter, processes: Procs, ids: &[EventId], taken: &mut [bool; MARKS])
+    requires some_process { 1 ≤ n }
+    requires few_processes { n ≤ most_processes }
+    requires letter { a.0 < most_letters }
+    requires numbers { length ids.now ≡ n * n * n }
+    requires columns { AreInColumns n a.0 (members processes) (event_numbers ids.now) }
+    requires none { taken.old ≡ replicate (most_labels + 1) false }
+    ensures room { n ^ 3 < length taken.new }
+    ensures marks { (k : ℕ) → k ≤ n ^ 3 →
+        slice_index_or taken.new k false ≡ has (event_numbers ids.now) (number_of n a.0 k) }
+{
+    let first = id_of(n, a, 0);
+    let labels = label_count(n);
+    for s in 0..n {
+        if processes.has(s) {
+            mark_column(n, s, first, labels, ids, taken);
+        }
+    }
+}
+
+/// Marks the places of the numbers of a column, among so many numbers from the first on.
+fn mark_column(
+    n: usize,
+    s: usize,
+    first: EventId,
+    labels: u32,
+    ids: &[EventId],
+    taken: &mut [bool; MARKS],
+)
+    requires column { s < n }
+    requires few_processes { n ≤ most_processes }
+    requires numbers { length ids.now ≡ n * n * n }
+    requires labels { labels ≤ most_labels }
+    requires fits { first.0 + labels ≤ 4294967296 }
+    ensures { HasMarked (event_numbers ids.now) n (n * n) s first.0 labels taken.old taken.new }
+{
+    for i in 0..n * n {
+        taken[place_from(first, labels, ids[i * n + s])] = true;
     }
 }
 

@@ -8,4 +8,4 @@ mod labels;
 mod tests;
 
 pub use ids::{EventId, id_of, label_of, letter_of};
-pub use labels::{MOST_LABELS, first_unmarked, least_free};
+pub use labels::{MOST_LABELS, first_unmarked, least_free, least_free_among};

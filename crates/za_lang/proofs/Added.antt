@@ -9,7 +9,7 @@ use Rattle.za_alpha.specs.Alphabet.{DistributedAlphabet, loc_of}
 use Rattle.za_script.specs.Limits.{most_script_letters}
 use Rattle.za_script.specs.ScriptLists.{script_of, total_of, AreScripts, IsLetterOf, FitAlphabet}
 use Rattle.za_script.proofs.Totals.{total_of-append, AreScripts-append}
-use Rattle.za_lang.specs.Private.Gathering.{AreAdded}
+use Rattle.za_lang.specs.Gathering.{AreAdded}
 
 pub all_run : (P : ℕ → Type 0) (n a : ℕ) → P a → All P (replicate n a)
 all_run P zero a h = All-nil P

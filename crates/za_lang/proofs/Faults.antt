@@ -9,10 +9,11 @@ use Rattle.za_text.specs.Lines.{lines_of}
 use Rattle.za_lang.specs.declared.fault.Refusal.{Refusal}
 use Rattle.za_lang.specs.declared.fault.Refusal.TheVariants as refusal
 use Rattle.za_lang.specs.Answers.{IsRefused, fault_at}
-use Rattle.za_lang.specs.Private.Gathering.{more, IsWrong}
+use Rattle.za_lang.specs.Gathering.{more, IsWrong}
 use Rattle.za_lang.proofs.Saying.{said_more}
 
-cut_at : (all : List RawLine) (n : ℕ) (line : RawLine) (rest : List RawLine) → drop n all ≡ line ∷ rest →
+-- the lines at a place, and those before the place after it
+pub cut_at : (all : List RawLine) (n : ℕ) (line : RawLine) (rest : List RawLine) → drop n all ≡ line ∷ rest →
     (drop (suc n) all ≡ rest) × (take (suc n) all ≡ take n all ++ line ∷ [])
 cut_at [] zero line rest h = absurd (cc)
 cut_at [] (suc n) line rest h = absurd (cc)

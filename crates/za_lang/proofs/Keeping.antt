@@ -12,7 +12,7 @@ use Rattle.za_lang.specs.declared.version.Version.{Version}
 use Rattle.za_lang.specs.declared.version.Version.TheVariants.{One, Two}
 use Rattle.za_lang.specs.Order.{head_of}
 use Rattle.za_lang.specs.Documents.{Said, begins_comment, version_said}
-use Rattle.za_lang.specs.Private.Reading.{reading_place, reading_version, Keeps, Awaits}
+use Rattle.za_lang.specs.Reading.{reading_place, reading_version, Keeps, Awaits}
 
 -- the place that the lines lead to
 pub kept_place : (r : Reading) (s : Said) → Keeps r s → reading_place r ≡ s.place

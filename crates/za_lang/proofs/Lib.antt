@@ -1,4 +1,5 @@
 pub mod Places
+pub mod PlainItems
 pub mod Naming
 pub mod Added
 pub mod Marks
@@ -11,3 +12,4 @@ pub mod Whole
 pub mod Keeping
 pub mod Sound
 mod Examples
+pub mod Ending

@@ -6,7 +6,7 @@ use Rattle.std.proofs.lemmas.List.{append-nil, ext_get_or, get_or-replicate, len
 use Rattle.std.proofs.lemmas.List.FromFn.{length-map-range_with_len, get_or-map-range_with_len}
 use Rattle.za_alpha.specs.Words.{has}
 use Rattle.za_lang.specs.Documents.{acceptance_of}
-use Rattle.za_lang.specs.Private.Gathering.{marked}
+use Rattle.za_lang.specs.Gathering.{marked}
 
 has_more : (qs : List ℕ) (q i : ℕ) → has (qs ++ q ∷ []) i ≡ (has qs i || eqb q i)
 has_more [] q i = grind (arith, nat_tests)

@@ -8,9 +8,9 @@ use Rattle.za_lang.specs.declared.order.Head.TheVariants as head
 use Rattle.za_lang.specs.declared.order.Place.TheVariants.{AtStart}
 use Rattle.za_lang.specs.Documents.{Said, first_number}
 use Rattle.za_lang.specs.Namings.{Naming}
-use Rattle.za_lang.specs.Private.Letters.{blank_job}
-use Rattle.za_lang.specs.Private.Gathering.{more_said, Tells}
-use Rattle.za_lang.specs.Private.Reading.{letters_told}
+use Rattle.za_lang.specs.Letters.{blank_job}
+use Rattle.za_lang.specs.Gathering.{more_said, Tells}
+use Rattle.za_lang.specs.Reading.{letters_told}
 use Rattle.za_lang.proofs.Marks.{marked_none}
 
 -- the job that a states line begins has what the lines say

@@ -39,9 +39,9 @@ use Rattle.za_lang.specs.Namings.{Naming, IsNaming}
 use Rattle.za_lang.specs.Order.{head_of, next_place, order_fault}
 use Rattle.za_lang.specs.Tests.{processes_line_fault, process_at, process_fault, loc_fault, some_loc_fault, kind_of_name, letter_line_fault, states_fault, states_line_fault, state_fault, start_line_fault, named_fault, new_row_fault, row_line_fault, step_fault, items_fault, script_items_fault, script_line_fault}
 use Rattle.za_lang.specs.Documents.{Said, Step, said, version_of, names_of, words_in, first_number, start_said, rows_said, row_of, steps_said, steps_of, letter_of, script_of_steps, scripts_said, job_said, own_fault, words_fault, line_fault, next_fault, end_fault, faults_from}
-use Rattle.za_lang.specs.Private.Gathering.{more_said, more}
-use Rattle.za_lang.specs.Private.Letters.{AreFew}
-use Rattle.za_lang.specs.Private.Reading.{nothing}
+use Rattle.za_lang.specs.Gathering.{more_said, more}
+use Rattle.za_lang.specs.Letters.{AreFew}
+use Rattle.za_lang.specs.Reading.{nothing}
 use Rattle.za_lang.specs.Laws.{DocumentsAreJobs}
 use Rattle.za_lang.proofs.Places.{place_within}
 use Rattle.za_lang.proofs.Saying.{said_none, said_more, said_version}

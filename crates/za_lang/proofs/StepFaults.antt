@@ -1,7 +1,8 @@
 -- The tests of script lines, one item after another.
-use Rattle.std.proofs.Common.{◌≡◌, ℕ, ◌+◌, true, false, Bool, not, cond, List, length, refl, sym, ap, subst, Option, Some, None}
+use Rattle.std.proofs.Common.{◌≡◌, ℕ, ◌+◌, ◌≤◌, ◌==◌, arith, true, false, Bool, not, cond, List, length, refl, sym, ap, subst, Option, Some, None}
 use Rattle.std.specs.Prelude.{nat_lt, unwrap_or, is_some}
 use Rattle.std.proofs.lemmas.Bool.{not-false}
+use Rattle.std.proofs.lemmas.Bool.Decides.{nat_tests}
 use Rattle.std.proofs.lemmas.List.{length-replicate}
 use Rattle.za_text.specs.declared.kind.Kind.{Kind}
 use Rattle.za_text.specs.declared.kind.Kind.TheVariants.{NotOfProcess, ScriptsFull, BadRepeat}
@@ -12,11 +13,11 @@ use Rattle.za_alpha.specs.Alphabet.{DistributedAlphabet, NamedLetter, loc_of, pr
 use Rattle.za_alpha.proofs.RowLemmas.{none_of_cond}
 use Rattle.za_script.specs.declared.fault.ScriptFault.{ScriptFault}
 use Rattle.za_script.specs.declared.fault.ScriptFault.TheVariants.{Foreign, Full, OutOfMemory}
-use Rattle.za_script.specs.ScriptLists.{total_of, add_run_fault}
+use Rattle.za_script.specs.ScriptLists.{total_of, add_fault, add_run_fault}
 use Rattle.za_script.specs.Limits.{most_script_letters}
 use Rattle.za_lang.specs.Answers.{refusal_of_step}
 use Rattle.za_lang.specs.Items.{run_of}
-use Rattle.za_lang.specs.Private.Gathering.{IsWrong}
+use Rattle.za_lang.specs.Gathering.{IsWrong}
 use Rattle.za_lang.specs.Tests.{step_fault}
 
 -- a run of a letter of the process, where there is room, has no fault
@@ -59,3 +60,10 @@ wrong_run alphabet scripts p a count e is =
     by_tests false full = refl
     by_tests true true = refl
     by_tests true false = tt
+
+-- a letter alone is a run of one
+pub one_run : (alphabet : DistributedAlphabet) (scripts : List (List ℕ)) (p : ℕ) (a : Letter) → total_of scripts ≤ most_script_letters →
+    add_fault alphabet scripts p a ≡ add_run_fault alphabet scripts p a 1
+one_run alphabet scripts p a few =
+    let full : (total_of scripts == most_script_letters) ≡ nat_lt most_script_letters (total_of scripts + 1) = grind (arith, nat_tests) in
+    rw full refl

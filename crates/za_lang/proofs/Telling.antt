@@ -14,7 +14,7 @@ use Rattle.za_lang.specs.Items.{letters_of_items}
 use Rattle.za_lang.specs.Jobs.{JobData}
 use Rattle.za_lang.specs.Tests.{process_at}
 use Rattle.za_lang.specs.Documents.{Said, Step, script_of_steps}
-use Rattle.za_lang.specs.Private.Gathering.{more_said, marked, AreAdded, Tells}
+use Rattle.za_lang.specs.Gathering.{more_said, marked, AreAdded, Tells}
 use Rattle.za_lang.proofs.Marks.{marked_all}
 use Rattle.za_lang.proofs.Added.{added_same, added_other}
 

@@ -9,7 +9,7 @@ use Rattle.za_dfa.specs.Partials.{PartialDfa}
 use Rattle.za_lang.specs.Jobs.{JobData, IsJob}
 use Rattle.za_lang.specs.Namings.{Naming}
 use Rattle.za_lang.specs.Documents.{Said, lang_said, scripts_said, job_said, script_of_steps}
-use Rattle.za_lang.specs.Private.Gathering.{Tells}
+use Rattle.za_lang.specs.Gathering.{Tells}
 
 targets_told : (job : JobData) (s : Said) → Tells job s → job.lang.targets ≡ (lang_said s).targets
 targets_told job s h = h.rows.cells ∙ ap (λ m. cells_of m (length job.lang.alphabet.letters) s.rows) h.states ∙ ap (λ (ls : List NamedLetter). cells_of s.states (length ls) s.rows) h.letters

@@ -1,6 +1,7 @@
 -- What a reader of documents answers.
-use Rattle.std.specs.Prelude.{◌≡◌, ℕ, List, Some}
+use Rattle.std.specs.Prelude.{◌≡◌, ℕ, List, Option, Some}
 use Rattle.za_text.specs.declared.kind.Kind.TheVariants.{NotOfProcess, ScriptsFull}
+use Rattle.za_text.specs.declared.kind.TextFault.{TextFault}
 use Rattle.za_script.specs.declared.fault.ScriptFault.{ScriptFault}
 use Rattle.za_script.specs.declared.fault.ScriptFault.TheVariants as script_fault
 use Rattle.za_lang.specs.declared.job.Job.{Job}
@@ -15,10 +16,14 @@ use Rattle.za_lang.specs.Documents.{fault_of}
 abbrev pub data_of : Job → JobData
 data_of job = record { naming = job.lang.naming; lang = job.lang.table; scripts = job.scripts }
 
--- the text is refused so, unless memory was refused
+-- a text is refused with this fault, unless memory was refused
+abbrev pub IsRefusedWith : Option TextFault → JobFault → Type 0
+IsRefusedWith fault (job_fault.Text seen) = fault ≡ Some seen
+IsRefusedWith fault job_fault.OutOfMemory = Unit {0}
+
+-- the text of a document is refused so
 abbrev pub IsRefused : List ℕ → JobFault → Type 0
-IsRefused bytes (job_fault.Text fault) = fault_of bytes ≡ Some fault
-IsRefused bytes job_fault.OutOfMemory = Unit {0}
+IsRefused bytes refusal = IsRefusedWith (fault_of bytes) refusal
 
 -- a refusal at a line
 abbrev pub fault_at : ℕ → Refusal → JobFault

@@ -9,3 +9,6 @@ pub mod Answers
 pub mod Words
 pub mod Laws
 pub mod Private
+pub mod Reading
+pub mod Gathering
+pub mod Letters

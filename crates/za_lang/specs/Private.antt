@@ -1,4 +1,1 @@
 pub mod Inside
-pub mod Gathering
-pub mod Letters
-pub mod Reading

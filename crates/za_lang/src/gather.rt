@@ -6,18 +6,18 @@ ghost use Rattle.std.specs.Prelude.{length, IfOk, IfSome, MatchResult, OnOk, if�
 ghost use Rattle.std.specs.List.{filter_map};
 ghost use Rattle.za_text.specs.Numbers.{numeral_value};
 ghost use Rattle.za_text.specs.declared.kind.Kind.TheVariants.{TwoTargets};
-ghost use Rattle.za_alpha.specs.Alphabet.{place_of};
+ghost use Rattle.za_alpha.specs.Alphabet.{place_of, IsDistributed};
 ghost use Rattle.za_dfa.specs.declared.rows.Row as declared_row;
 ghost use Rattle.za_dfa.specs.Rows.{has_other};
-ghost use Rattle.za_dfa.specs.Private.Entered.{AreEntered};
+ghost use Rattle.za_dfa.specs.Entered.{AreEntered};
 ghost use Rattle.za_script.specs.ScriptLists.{total_of, AreScripts};
 ghost use Rattle.za_lang.specs.Answers.{data_of};
 ghost use Rattle.za_lang.specs.Documents.{rows_said};
 ghost use Rattle.za_lang.specs.Jobs.{IsJob};
-ghost use Rattle.za_lang.specs.Items.{letters_of_items, run_of};
+ghost use Rattle.za_lang.specs.Items.{item_letters, item_of, letters_of_items, run_of};
 ghost use Rattle.za_lang.specs.Namings.{IsLangData};
-ghost use Rattle.za_lang.specs.Private.Gathering.{is_late_head, marked, AreAdded, IsTaken, IsWrong};
-ghost use Rattle.za_lang.specs.Tests.{accept_line_fault, items_fault, row_line_fault, step_fault};
+ghost use Rattle.za_lang.specs.Gathering.{is_late_head, marked, AreAdded, IsTaken, IsWrong};
+ghost use Rattle.za_lang.specs.Tests.{accept_line_fault, item_fault, items_fault, row_line_fault, step_fault};
 
 use crate::fault::Refusal;
 use crate::items::{Item, item_of};
@@ -107,8 +107,28 @@ fn take_row(lang: &mut Lang, words: Words) -> Result<(), Refusal>
     Ok(())
 }
 
+/// Appends a letter to a script.
+fn add_letter(
+    alphabet: &Alphabet,
+    scripts: &mut Scripts,
+    p: usize,
+    a: Letter,
+) -> Result<(), Refusal>
+    requires process { p < length scripts.old }
+    requires of_alphabet { p < alphabet.now.processes }
+    requires limits { AreScripts scripts.old }
+    requires letter { a.0 < length alphabet.now.letters }
+    ensures { let fault = step_fault alphabet.now.letters p (total_of scripts.old) (Some a.0) (Some 1) in
+        MatchResult result
+        (λ _. (fault ≡ None) × AreAdded alphabet.now scripts.old scripts.new p (run_of (Some a.0) (Some 1)))
+        (IsWrong fault) }
+{
+    scripts.add(alphabet, p, a)?;
+    Ok(())
+}
+
 /// Appends the letters of an item to a script.
-fn add_item(alphabet: &Alphabet, scripts: &mut Scripts, p: usize, item: Item) -> Result<(), Refusal>
+fn add_run(alphabet: &Alphabet, scripts: &mut Scripts, p: usize, item: Item) -> Result<(), Refusal>
     requires process { p < length scripts.old }
     requires of_alphabet { p < alphabet.now.processes }
     requires limits { AreScripts scripts.old }
@@ -132,6 +152,32 @@ fn add_item(alphabet: &Alphabet, scripts: &mut Scripts, p: usize, item: Item) ->
     Ok(())
 }
 
+/// Appends the letters that a word stands for to a script. A name has no `*`, so a letter's name stands for this letter
+/// in each version.
+fn add_item(
+    alphabet: &Alphabet,
+    scripts: &mut Scripts,
+    version: Version,
+    p: usize,
+    word: &[u8],
+) -> Result<(), Refusal>
+    requires process { p < length scripts.old }
+    requires of_alphabet { p < alphabet.now.processes }
+    requires limits { AreScripts scripts.old }
+    requires names { IsDistributed alphabet.now }
+    ensures { let item = item_of version word.now in
+        let fault = item_fault alphabet.now.letters p (total_of scripts.old) item in
+        let letters = item_letters alphabet.now.letters item in
+        MatchResult result
+        (λ _. (fault ≡ None) × AreAdded alphabet.now scripts.old scripts.new p letters)
+        (IsWrong fault) }
+{
+    match alphabet.find(word) {
+        Some(a) => add_letter(alphabet, scripts, p, a),
+        None => add_run(alphabet, scripts, p, item_of(version, word)),
+    }
+}
+
 /// Appends the letters that the words stand for to a script.
 fn add_items(
     alphabet: &Alphabet,
@@ -143,6 +189,7 @@ fn add_items(
     requires process { p < length scripts.old }
     requires of_alphabet { p < alphabet.now.processes }
     requires limits { AreScripts scripts.old }
+    requires names { IsDistributed alphabet.now }
     ensures { let letters = letters_of_items version alphabet.now.letters words.entry in
         let fault = items_fault version alphabet.now.letters p (total_of scripts.old) words.entry in
         MatchResult result
@@ -150,7 +197,7 @@ fn add_items(
         (IsWrong fault) }
 {
     while let Some(word) = words.next() {
-        add_item(alphabet, scripts, p, item_of(version, word))?;
+        add_item(alphabet, scripts, version, p, word)?;
     }
     Ok(())
 }

@@ -1,4 +1,5 @@
-ghost use Rattle.std.specs.Prelude.{◌≡◌, ◌<◌, ◌≤◌, All, IsTrue, length, slice_set, true, false, IfOk, IfSome, MatchResult};
+ghost use Rattle.std.specs.Prelude.{◌≡◌, ◌<◌, ◌≤◌, All, IsTrue, length, slice_set, true, false};
+ghost use Rattle.std.specs.Prelude.{IfOk, IfSome, MatchResult};
 ghost use Rattle.za_text.specs.Names.{is_name};
 ghost use Rattle.za_text.specs.ProcessNames.{numbered};
 ghost use Rattle.za_dfa.specs.Partials.{blank, completion, entered, is_accepting};
@@ -64,10 +65,11 @@ impl Lang {
         requires size { length names ≡ dfa.now.alphabet.processes }
         requires names { All (λ name. IsTrue (is_name name)) names }
         requires states { dfa.now.states ≤ document_states Two }
-        ensures { IfOk result (λ lang. lang ≡ record {
+        ensures value { IfOk result (λ lang. lang ≡ record {
           naming = record { version = Two; names = names };
           table = whole_of dfa.now;
         }) }
+        ensures whole { IfOk result IsLangData }
     {
         let partial = Partial::of(alloc, dfa)?;
         Ok(Lang {

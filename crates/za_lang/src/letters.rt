@@ -12,9 +12,9 @@ ghost use Rattle.za_lang.specs.Jobs.{IsJob};
 ghost use Rattle.za_lang.specs.declared.version.Version.{Version};
 ghost use Rattle.za_lang.specs.Order.{order_fault};
 ghost use Rattle.za_lang.specs.Tests.{letter_line_fault, process_at, some_loc_fault, states_line_fault};
-ghost use Rattle.za_lang.specs.Private.Gathering.{more_said, IsWrong};
-ghost use Rattle.za_lang.specs.Private.Letters.{blank_job, AreFew, AreNamedLetters};
-ghost use Rattle.za_lang.specs.Private.Reading.{letters_place, letters_told, naming_of, Awaits, IsReading, Keeps};
+ghost use Rattle.za_lang.specs.Gathering.{more_said, IsWrong};
+ghost use Rattle.za_lang.specs.Letters.{blank_job, AreFew, AreNamedLetters};
+ghost use Rattle.za_lang.specs.Reading.{letters_place, letters_told, naming_of, Awaits, IsReading, Keeps};
 
 use crate::fault::Refusal;
 use crate::job::Job;

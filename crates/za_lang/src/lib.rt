@@ -24,6 +24,7 @@ pub use job::Job;
 pub use lang::Lang;
 pub use laws::documents_are_jobs;
 pub use line_tests::end_line_fault;
-pub use reading::{is_comment, read_job};
+pub use order::{Head, Place, head_of};
+pub use reading::{Reading, is_comment, read_job};
 pub use version::Version;
 pub use words::Words;

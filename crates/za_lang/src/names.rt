@@ -3,7 +3,7 @@
 ghost use Rattle.std.specs.Prelude.{◌≡◌, None, length, nat_lt, MatchResult};
 ghost use Rattle.za_lang.specs.Documents.{names_of};
 ghost use Rattle.za_lang.specs.Tests.{process_name_fault, processes_line_fault, some_names_fault};
-ghost use Rattle.za_lang.specs.Private.Gathering.{IsWrong};
+ghost use Rattle.za_lang.specs.Gathering.{IsWrong};
 
 use crate::fault::Refusal;
 use crate::limits::WIDE_PROCESSES;

@@ -1,4 +1,5 @@
-ghost use Rattle.std.specs.Prelude.{◌≡◌, ◌<◌, ◌+◌, ℕ, None, Some, length, IfOk, MatchOption, MatchResult};
+ghost use Rattle.std.specs.Prelude.{◌≡◌, ◌<◌, ◌+◌, ℕ, None, Some, false, length};
+ghost use Rattle.std.specs.Prelude.{IfOk, MatchOption, MatchResult, OnOk};
 ghost use Rattle.std.specs.Option.{option_or};
 ghost use Rattle.za_text.specs.Lines.{raw};
 ghost use Rattle.za_text.specs.Words.{words_of};
@@ -11,8 +12,8 @@ ghost use Rattle.za_lang.specs.Documents.{Said, begins_comment, end_fault, fault
 ghost use Rattle.za_lang.specs.Documents.{version_by, version_said, words_in};
 ghost use Rattle.za_lang.specs.Jobs.{IsJob};
 ghost use Rattle.za_lang.specs.Order.{order_fault};
-ghost use Rattle.za_lang.specs.Private.Gathering.{more, more_said, IsWrong};
-ghost use Rattle.za_lang.specs.Private.Reading.{reading_place, reading_version, Awaits, IsReading, Keeps};
+ghost use Rattle.za_lang.specs.Gathering.{more, more_said, IsWrong};
+ghost use Rattle.za_lang.specs.Reading.{is_late, reading_place, reading_version, Awaits, IsReading, Keeps};
 
 use crate::fault::{JobFault, Refusal, fault_at};
 use crate::gather::take_line;
@@ -24,13 +25,14 @@ use crate::order::{Head, Place, head_of, next_place, order_fault};
 use crate::version::Version;
 use crate::words::Words;
 use std::alloc::Global;
+use std::mem;
 use za_alpha::Letters;
 use za_text::{Kind, Line, Lines, Names, TextFault, are_allowed};
 
 /// What the lines so far have said: nothing, the version, processes and letters, or, from the states
-/// line on, a job.
+/// line on, a job. Readers of other documents with such lines go on from it.
 #[derive(Drop)]
-pub(crate) enum Reading {
+pub enum Reading {
     Header,
     Processes(Version),
     Letters {
@@ -59,7 +61,7 @@ pub fn is_comment(version: Version, word: &[u8]) -> bool
 
 impl Reading {
     /// Where the document has come to.
-    fn place(&self) -> Place
+    pub fn place(&self) -> Place
         ensures { result ≡ reading_place self.now }
     {
         match self {
@@ -82,20 +84,19 @@ impl Reading {
         }
     }
 
-    /// What a line says, by its first word and the words after it.
-    fn after_words(self, alloc: Global, head: Head, words: Words) -> Result<Reading, Refusal>
-        requires { IsReading self }
+    /// What a line up to the states line says, by its first word and the words after it.
+    fn opened(self, alloc: Global, head: Head, words: Words) -> Result<Reading, Refusal>
+        requires whole { IsReading self }
+        requires opening { is_late (reading_place self) ≡ false }
+        requires order { order_fault (reading_place self) head ≡ None }
         ensures whole { IfOk result IsReading }
         ensures taken { (s : Said) → Keeps self s → Awaits self (version_said head words.entry) s.naming.version →
             MatchResult result
-            (λ reading. (option_or (order_fault s.place head) (own_fault s head words.entry) ≡ None)
+            (λ reading. (own_fault s head words.entry ≡ None)
             × Keeps reading (more_said s head words.entry)
             × ((later version : Version) → Awaits reading later version))
-            (IsWrong (option_or (order_fault s.place head) (own_fault s head words.entry))) }
+            (IsWrong (own_fault s head words.entry)) }
     {
-        if let Some(kind) = order_fault(self.place(), head) {
-            return Err(Refusal::Wrong(kind));
-        }
         match self {
             Reading::Header => Ok(Reading::Processes(header_said(words)?)),
             Reading::Processes(version) => {
@@ -112,27 +113,66 @@ impl Reading {
                 names,
                 letters,
             } => after_letters(letters, alloc, version, names, head, words),
-            Reading::Body { place, mut job } => {
-                take_line(&mut job, head, words)?;
-                Ok(Reading::Body {
-                    place: next_place(place, head),
-                    job,
-                })
-            }
+            Reading::Body { .. } => unreachable!(),
         }
     }
 
-    /// What a line says, or its first test that fails.
-    #[tactic(auto, unfolding(crate::specs::Documents::line_fault))]
-    fn after(self, alloc: Global, line: &Line) -> Result<Reading, Refusal>
-        requires { IsReading self }
-        ensures whole { IfOk result IsReading }
-        ensures taken { (s : Said) → (later : Version) → Keeps self s →
-            Awaits self (version_by later (words_of line.now.text.now)) s.naming.version →
+    /// Takes what a line up to the states line says, by its first word and the words after it. It isn't inlined, since
+    /// each line would then pay for the place of the reading that moves here.
+    #[inline(never)]
+    fn open(&mut self, alloc: Global, head: Head, words: Words) -> Result<(), Refusal>
+        requires whole { IsReading self.old }
+        requires opening { is_late (reading_place self.old) ≡ false }
+        requires order { order_fault (reading_place self.old) head ≡ None }
+        ensures whole { OnOk result (IsReading self.new) }
+        ensures taken { (s : Said) → Keeps self.old s →
+            Awaits self.old (version_said head words.entry) s.naming.version →
             MatchResult result
-            (λ reading. (line_fault s (raw line.now) ≡ None)
-            × Keeps reading (more s (words_in s.naming.version (raw line.now)))
-            × Awaits reading later s.naming.version)
+            (λ _. (own_fault s head words.entry ≡ None)
+            × Keeps self.new (more_said s head words.entry)
+            × ((later version : Version) → Awaits self.new later version))
+            (IsWrong (own_fault s head words.entry)) }
+    {
+        *self = mem::replace(self, Reading::Header).opened(alloc, head, words)?;
+        Ok(())
+    }
+
+    /// Takes what a line says, by its first word and the words after it. After an error the reading is not to be
+    /// used again.
+    pub fn take_words(&mut self, alloc: Global, head: Head, words: Words) -> Result<(), Refusal>
+        requires { IsReading self.old }
+        ensures whole { OnOk result (IsReading self.new) }
+        ensures taken { (s : Said) → Keeps self.old s →
+            Awaits self.old (version_said head words.entry) s.naming.version →
+            MatchResult result
+            (λ _. (option_or (order_fault s.place head) (own_fault s head words.entry) ≡ None)
+            × Keeps self.new (more_said s head words.entry)
+            × ((later version : Version) → Awaits self.new later version))
+            (IsWrong (option_or (order_fault s.place head) (own_fault s head words.entry))) }
+    {
+        if let Some(kind) = order_fault(self.place(), head) {
+            return Err(Refusal::Wrong(kind));
+        }
+        // Most lines are of the body, and its job isn't moved.
+        if let Reading::Body { place, job } = self {
+            take_line(job, head, words)?;
+            *place = next_place(*place, head);
+            return Ok(());
+        }
+        self.open(alloc, head, words)
+    }
+
+    /// Takes what a line says, or tells its first test that fails.
+    #[tactic(auto, unfolding(crate::specs::Documents::line_fault))]
+    fn take(&mut self, alloc: Global, line: &Line) -> Result<(), Refusal>
+        requires { IsReading self.old }
+        ensures whole { OnOk result (IsReading self.new) }
+        ensures taken { (s : Said) → (later : Version) → Keeps self.old s →
+            Awaits self.old (version_by later (words_of line.now.text.now)) s.naming.version →
+            MatchResult result
+            (λ _. (line_fault s (raw line.now) ≡ None)
+            × Keeps self.new (more s (words_in s.naming.version (raw line.now)))
+            × Awaits self.new later s.naming.version)
             (IsWrong (line_fault s (raw line.now))) }
     {
         if !line.whole {
@@ -143,16 +183,16 @@ impl Reading {
         }
         let mut words = Words::new(line);
         let Some(first) = words.next() else {
-            return Ok(self);
+            return Ok(());
         };
         if is_comment(self.version(), first) {
-            return Ok(self);
+            return Ok(());
         }
-        self.after_words(alloc, head_of(first), words)
+        self.take_words(alloc, head_of(first), words)
     }
 
     /// The job, if the document has come to its end.
-    fn into_job(self) -> Option<Job>
+    pub fn into_job(self) -> Option<Job>
         ensures { MatchOption result
             ((n : ℕ) → end_fault (reading_place self) n ≡ Some (record { line = n + 1; kind = NoEnd }))
             (λ job. self ≡ Body AfterEnd job) }
@@ -180,10 +220,9 @@ pub fn read_job(alloc: Global, bytes: &[u8]) -> Result<Job, JobFault>
     let mut lines = Lines::new(bytes);
     let mut reading = Reading::Header;
     'lines: while let Some(line) = lines.next() {
-        reading = match reading.after(alloc, &line) {
-            Ok(reading) => reading,
-            Err(refusal) => return Err(fault_at(line.number, refusal)),
-        };
+        if let Err(refusal) = reading.take(alloc, &line) {
+            return Err(fault_at(line.number, refusal));
+        }
     }
     match reading.into_job() {
         Some(job) => Ok(job),

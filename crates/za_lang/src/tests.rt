@@ -57,7 +57,8 @@ fn refusals_and_words(rt: HostRuntime) -> Result<(), Fail> {
 
 /// Two processes with names, and a comment; its script lines begin at line 16.
 const NAMED: &[u8] =
-    b"zla 2\n# two sides\nprocesses left right\nletter a left\nletter b right\nletter c left right\nstates 2\nstart 0\naccept 0\nrow 0 a 1\nrow 0 b 0\nrow 0 c 0\nrow 1 a 0\nrow 1 b 1\nrow 1 c 1\n";
+    b"zla 2\n# two sides\nprocesses left right\nletter a left\nletter b right\nletter c left right\n\
+    states 2\nstart 0\naccept 0\nrow 0 a 1\nrow 0 b 0\nrow 0 c 0\nrow 1 a 0\nrow 1 b 1\nrow 1 c 1\n";
 
 /// How many script letters a text has that begins so and ends with these lines.
 fn letters_of(

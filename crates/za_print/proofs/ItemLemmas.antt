@@ -1,13 +1,13 @@
 -- The items of a script: their letters, and that each is read as it is printed.
-use Rattle.std.proofs.Common.{◌≡◌, ◌∙◌, ap, sym, refl, ℕ, zero, suc, ◌+◌, ◌<◌, ◌≤◌, ◌^◌, Bool, true, false, not, cond, inl, inr, List, [], ◌∷◌, ◌++◌, length, map, replicate, take, drop, drop-cons, get_or, length-append, arith, add-one, eqb-true, eq-eqb, Option, Some, None}
+use Rattle.std.proofs.Common.{◌≡◌, ◌∙◌, ap, sym, refl, ℕ, zero, suc, ◌+◌, ◌<◌, ◌≤◌, ◌^◌, Bool, true, false, cond, inl, inr, List, [], ◌∷◌, ◌++◌, length, map, replicate, take, drop, drop-cons, get_or, length-append, arith, add-one, eqb-true, eq-eqb, Option, Some, None}
 use Rattle.std.specs.Prelude.{◌==◌, nat_lt, decimal, unwrap_or}
-use Rattle.std.specs.List.{list_all, flat_map, prefix_len, AllByRecursion}
+use Rattle.std.specs.List.{flat_map, prefix_len, AllByRecursion}
 use Rattle.std.specs.Option.{option_or}
-use Rattle.std.proofs.lemmas.Bool.{and_parts, cases_Bool}
+use Rattle.std.proofs.lemmas.Bool.{cases_Bool}
 use Rattle.std.proofs.lemmas.Bool.Decides.{nat_tests}
-use Rattle.std.proofs.lemmas.List.{append-nil, length-replicate}
+use Rattle.std.proofs.lemmas.List.{length-replicate}
 use Rattle.std.proofs.Math.Seq.{take-append_seam}
-use Rattle.za_text.specs.Names.{is_name, is_name_byte}
+use Rattle.za_text.specs.Names.{is_name}
 use Rattle.za_alpha.specs.Words.{has}
 use Rattle.za_alpha.specs.Procs.{members}
 use Rattle.za_alpha.specs.Alphabet.{NamedLetter, name_at, procs_at, place_of}
@@ -15,6 +15,7 @@ use Rattle.za_script.specs.Limits.{most_script_letters}
 use Rattle.za_lang.specs.declared.version.Version.{Version}
 use Rattle.za_lang.specs.declared.version.Version.TheVariants.{One, Two}
 use Rattle.za_lang.specs.Items.{Item, item_of, item_letters, letters_of_items, positive, repeated, star_at}
+use Rattle.za_lang.proofs.PlainItems.{item_is, name_bytes, plain_item, stars_after}
 use Rattle.za_lang.specs.Tests.{items_fault, item_fault}
 use Rattle.za_print.specs.Printed.{Run, put_run, runs, script_runs, item_word}
 use Rattle.za_print.specs.Private.Items.{runs_by, item_len, front_run}
@@ -130,17 +131,6 @@ runs-fit Two P (a ∷ w) all = put-fits P a (runs w) all.0 (runs-fit Two P w all
 
 -- ---- an item is read as it is printed
 
-no_star : (b : ℕ) → is_name_byte b ≡ true → not (b == 42) ≡ true
-no_star b h = grind (arith, nat_tests)
-
-stars_after : (name : List ℕ) (rest : List ℕ) → list_all is_name_byte name ≡ true → star_at (name ++ rest) ≡ length name + star_at rest
-stars_after [] rest h = omega arith
-stars_after (b ∷ name) rest h =
-    let parts = and_parts (is_name_byte b) (list_all is_name_byte name) h in
-    let e = no_star b parts.0 in
-    let later = stars_after name rest parts.1 in
-    rw e (omega arith)
-
 drop_past : (name : List ℕ) (b : ℕ) (rest : List ℕ) → drop (length name + 1) (name ++ b ∷ rest) ≡ rest
 drop_past [] b rest = refl
 drop_past (x ∷ name) b rest = let e : suc (length name) + 1 ≡ suc (length name + 1) = omega arith in rw e (drop_past name b rest)
@@ -148,19 +138,6 @@ drop_past (x ∷ name) b rest = let e : suc (length name) + 1 ≡ suc (length na
 positive_some : (n : ℕ) → 0 < n → positive (Some n) ≡ Some n
 positive_some zero h = absurd (omega arith)
 positive_some (suc n) h = refl
-
-name_bytes : (name : List ℕ) → is_name name ≡ true → list_all is_name_byte name ≡ true
-name_bytes name h = (and_parts _ (list_all is_name_byte name) h).1
-
-abbrev item_is : List ℕ → ℕ → Item
-item_is name count = record { name = name; count = Some count }
-
-plain_item : (name : List ℕ) → is_name name ≡ true → repeated name ≡ item_is name 1
-plain_item name h =
-    let all = stars_after name [] (name_bytes name h) in
-    let whole : star_at name ≡ length name = ap star_at (sym (append-nil name)) ∙ all ∙ (let z : length name + 0 ≡ length name = omega arith in z) in
-    let no : nat_lt (star_at name) (length name) ≡ false = grind (arith, nat_tests) in
-    rw no refl
 
 repeated_item : (name : List ℕ) (count : ℕ) → is_name name ≡ true → 0 < count → count < 2 ^ 32 → repeated (name ++ 42 ∷ decimal count) ≡ item_is name count
 repeated_item name count h some few =

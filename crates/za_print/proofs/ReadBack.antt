@@ -29,8 +29,8 @@ use Rattle.za_lang.specs.Documents.{Said, Step, said, version_by, version_of, ve
 use Rattle.za_print.specs.Printed.{Run, version_word, processes_line, letter_line, accepting_states, accept_line, row_line, table_rows, row_lines, script_runs, item_word, script_line, script_lines, job_lines, printed}
 use Rattle.za_print.proofs.PrintedLines.{CanPrint, is_inner, IsLine, lines_of_text, printed_line, words_of_line, name_word, starred_word}
 use Rattle.za_print.proofs.Decimals.{numeral_value-decimal, numbers-decimal, word-decimal}
-use Rattle.za_lang.specs.Private.Gathering.{more}
-use Rattle.za_lang.specs.Private.Reading.{nothing}
+use Rattle.za_lang.specs.Gathering.{more}
+use Rattle.za_lang.specs.Reading.{nothing}
 use Rattle.za_lang.proofs.Saying.{said_none}
 use Rattle.za_print.proofs.ItemLemmas.{Finds, AreNamed, StepFits, RunFits, runs-fit, expand, expand-script, items_right, items_said}
 use Rattle.za_print.proofs.ProcessWords.{AreProcessWords, process_words, processes_print, word_of_process}

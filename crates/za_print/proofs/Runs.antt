@@ -24,7 +24,7 @@ use Rattle.za_print.proofs.PrintedLines.{IsLine, printed_line, words_in_line, li
 use Rattle.za_print.proofs.Decimals.{numeral_value-decimal}
 use Rattle.za_print.proofs.ItemLemmas.{Finds}
 use Rattle.za_print.proofs.ProcessWords.{processes_right, processes_said}
-use Rattle.za_lang.specs.Private.Gathering.{more}
+use Rattle.za_lang.specs.Gathering.{more}
 use Rattle.za_lang.proofs.Saying.{said_more}
 
 -- after this the lines are right, one after the other, and come to that

@@ -246,10 +246,10 @@ fn header(lang: &Lang) -> &'static [u8]
 /// The printed form of a job: its lines in the order of the grammar, one space between two words.
 ///
 /// In version 2 the processes have their names in place of numbers, and each maximal run of one letter in
-/// a script is one item; comments are not kept. A letter's processes, the accepting states, the rows (by state, then by letter) and the processes of
-/// the script lines rise, and each process has one script line, also where its script is empty. The
-/// scripts have to fit the alphabet. The printed form is a document, and says an equal job. Want of
-/// memory is the one free answer.
+/// a script is one item; comments are not kept. A letter's processes, the accepting states, the rows (by
+/// state, then by letter) and the processes of the script lines rise, and each process has one script
+/// line, also where its script is empty. The scripts have to fit the alphabet. The printed form is a
+/// document, and says an equal job. Want of memory is the one free answer.
 pub fn print_job(alloc: Global, job: &Job) -> Result<Vec<u8>, OutOfMemory>
     requires { FitAlphabet job.now.lang.table.alphabet job.now.scripts }
     ensures text { IfOk result (λ text. text.items ≡ printed (data_of job.now)) }

@@ -1,5 +1,5 @@
-ghost use Rattle.std.specs.Prelude.{◌≡◌, ◌<◌, ◌≤◌, ◌+◌, ◌-◌, ◌^◌, ◌↔◌};
-ghost use Rattle.std.specs.Prelude.{Some, None, IsTrue, IfOk, IfSome, MatchOption};
+ghost use Rattle.std.specs.Prelude.{◌≡◌, ℕ, ◌<◌, ◌≤◌, ◌+◌, ◌-◌, ◌^◌, ◌↔◌};
+ghost use Rattle.std.specs.Prelude.{Some, None, IsTrue, IfOk, IfSome, MatchOption, true, slice_get};
 ghost use Rattle.za_records.specs.declared.shelf.Counted.{Counted};
 ghost use Rattle.za_records.specs.Shelf.{at, live, IsLive, passes, count, count as count_at};
 ghost use Rattle.za_records.specs.Shelf.{Changes, AreCounted, IsLeastPassing};
@@ -26,6 +26,8 @@ pub struct Counted<T> {
 pub struct Shelf<T> {
     slab: Slab<Counted<T>>,
     capacity: usize,
+    /// All keys that are live, or ever were, are below it.
+    used: usize,
 }
 
 impl<T> Model for Shelf<T> {
@@ -36,7 +38,7 @@ impl<T> Model for Shelf<T> {
 
     ghost view = { λ s. record { slots = s.slab.slots; capacity = s.capacity } };
 
-    ghost invariant = { λ s. inside.IsShelf s.slab s.capacity };
+    ghost invariant = { λ s. inside.IsShelf s.slab s.capacity s.used };
 }
 
 impl<T> Shelf<T> {
@@ -54,7 +56,11 @@ impl<T> Shelf<T> {
         if slab.capacity() >= 4_294_967_296 {
             return Err(OutOfMemory);
         }
-        Ok(Shelf { slab, capacity })
+        Ok(Shelf {
+            slab,
+            capacity,
+            used: 0,
+        })
     }
 
     /// How many keys are live.
@@ -106,7 +112,11 @@ impl<T> Shelf<T> {
         ensures changes { Changes self.old self.new result.0 (Some (record { value = value; count = count })) }
         ensures live { live self.new ≡ live self.old + 1 }
     {
-        Key(self.slab.insert_reserved(Counted { value, count }) as u32)
+        let key = self.slab.insert_reserved(Counted { value, count });
+        if key >= self.used {
+            self.used = key + 1;
+        }
+        Key(key as u32)
     }
 
     /// Adds to the count of a live key. The sum has 32 bits.
@@ -162,13 +172,36 @@ impl<T> Shelf<T> {
         ensures least { IsLeastPassing (λ v. T.eq v value.now) self.now result }
         ensures counted { IfSome result (λ key. 0 < count self.now key.0) }
     {
-        for key in 0..self.slab.capacity() {
-            if self.is_at(key, value) {
+        self.same_marked(value, &[], 0)
+    }
+
+    /// The same, where keys may have marks, by which values are told apart without a look at them:
+    /// where an equal value has a mark, it is this one.
+    pub fn same_marked(&self, value: &T, marks: &[u32], mark: u32) -> Option<Key>
+    where
+        T: PartialEq,
+        requires { (key other : ℕ) → passes (λ v. T.eq v value.now) (at self.now key) ≡ true →
+            slice_get marks.now key ≡ Some other → other ≡ mark }
+        ensures least { IsLeastPassing (λ v. T.eq v value.now) self.now result }
+        ensures counted { IfSome result (λ key. 0 < count self.now key.0) }
+    {
+        for key in 0..self.used {
+            if may_have(marks, key, mark) && self.is_at(key, value) {
                 let found = Key(key as u32);
                 let _count = self.count(found);
                 return Some(found);
             }
         }
         None
+    }
+}
+
+/// Whether the key has no mark, or this one.
+fn may_have(marks: &[u32], key: usize, mark: u32) -> bool
+    ensures { IsTrue result ↔ ((other : ℕ) → slice_get marks.now key ≡ Some other → other ≡ mark) }
+{
+    match marks.get(key) {
+        Some(other) => *other == mark,
+        None => true,
     }
 }

@@ -21,10 +21,13 @@ entry_words alphabet w p =
     map (λ q. entry_word alphabet w (primary (participants (loc_of alphabet) w) (length w) p q))
     (range_with_len 0 alphabet.processes)
 
--- the line of p: that, and the state after all events that it knows
+-- that, and the state after all events that it knows
+abbrev pub known_words : CompleteDfa → List ℕ → ℕ → List (List ℕ)
+known_words d w p = entry_words d.alphabet w p ++ codes "view" ∷ decimal (view_state_after d w p) ∷ []
+
+-- the line of p
 abbrev pub local_line : CompleteDfa → List ℕ → ℕ → List (List ℕ)
-local_line d w p =
-    (codes "p" ++ decimal p) ∷ (entry_words d.alphabet w p ++ codes "view" ∷ decimal (view_state_after d w p) ∷ [])
+local_line d w p = (codes "p" ++ decimal p) ∷ known_words d w p
 
 -- the lines of all processes
 abbrev pub locals_text : CompleteDfa → List ℕ → List ℕ

@@ -1,9 +1,11 @@
 -- The texts of answers and refusals.
 use Rattle.std.specs.Prelude.{ℕ, ◌+◌, ◌*◌, nat_lt, List, [], ◌∷◌, ◌++◌, length, map, codes, decimal}
-use Rattle.std.specs.Prelude.{slice_index, if◌then◌else◌}
+use Rattle.std.specs.Prelude.{slice_index, Option, Some, None, if◌then◌else◌}
 use Rattle.std.specs.List.{range_with_len}
 use Rattle.za_alpha.specs.Words.{projection}
 use Rattle.za_alpha.specs.Alphabet.{DistributedAlphabet, loc_of, name_at}
+use Rattle.za_min.specs.declared.live.Hope.{Hope}
+use Rattle.za_min.specs.declared.live.Hope.TheVariants.{Alive, Dead}
 use Rattle.za_order.specs.Labels.{label_bound}
 use Rattle.za_script.specs.declared.answer.Answer.{Answer}
 use Rattle.za_script.specs.declared.answer.Answer.TheVariants.{Accept, Reject, Stuck}
@@ -12,6 +14,7 @@ use Rattle.za_text.specs.declared.kind.TextFault.{TextFault}
 use Rattle.za_text.specs.Kinds.{kind_text}
 use Rattle.za_text.specs.ProcessNames.{name_of}
 use Rattle.za_text.specs.Printed.{text_of, number_line}
+use Rattle.za_claim.specs.Printed.{answer_word}
 
 -- how many records there are at most: one for each process and for one firing, and as many for each cache row
 abbrev pub record_bound : DistributedAlphabet → ℕ → ℕ
@@ -25,11 +28,10 @@ bound_line alphabet cache =
 
 -- ---- answers
 
--- the first word of an answer's text
-abbrev pub answer_word : Answer → List ℕ
-answer_word Accept = codes "accept"
-answer_word Reject = codes "reject"
-answer_word Stuck = codes "stuck"
+-- whether a run whose scripts are stuck can still be saved
+abbrev pub hope_word : Hope → List ℕ
+hope_word Alive = codes "alive"
+hope_word Dead = codes "dead"
 
 -- a word, and the names of letters
 abbrev pub names_line : List ℕ → DistributedAlphabet → List ℕ → List (List ℕ)
@@ -51,23 +53,25 @@ abbrev pub process_line : List (List ℕ) → DistributedAlphabet → List (List
 process_line names alphabet scripts word p =
     process_words alphabet (script_of scripts p) (name_of names p) (length (projection (loc_of alphabet) p word))
 
--- where the scripts are stuck: each process, and the word that fired
-abbrev pub stuck_lines : List (List ℕ) → DistributedAlphabet → List (List ℕ) → List ℕ → List (List (List ℕ))
-stuck_lines names alphabet scripts word =
+-- where the scripts are stuck: each process, the word that fired, and the hope
+abbrev pub stuck_lines : List (List ℕ) → DistributedAlphabet → List (List ℕ) → List ℕ → Hope → List (List (List ℕ))
+stuck_lines names alphabet scripts word hope =
     map (process_line names alphabet scripts word) (range_with_len 0 alphabet.processes)
-    ++ names_line (codes "trace") alphabet word ∷ []
+    ++ names_line (codes "trace") alphabet word ∷ (hope_word hope ∷ []) ∷ []
 
+-- these lines where there is a hope: only stuck scripts have one
 abbrev pub more_lines :
-    List (List ℕ) → DistributedAlphabet → List (List ℕ) → List ℕ → Answer → List (List (List ℕ))
-more_lines names alphabet scripts word Accept = []
-more_lines names alphabet scripts word Reject = []
-more_lines names alphabet scripts word Stuck = stuck_lines names alphabet scripts word
+    List (List ℕ) → DistributedAlphabet → List (List ℕ) → List ℕ → Option Hope → List (List (List ℕ))
+more_lines names alphabet scripts word None = []
+more_lines names alphabet scripts word (Some hope) = stuck_lines names alphabet scripts word hope
 
--- the text of an answer, with the names of the processes, the word that fired and so many cache rows
-abbrev pub answer_text : List (List ℕ) → DistributedAlphabet → List (List ℕ) → List ℕ → Answer → ℕ → List ℕ
-answer_text names alphabet scripts word answer cache =
+-- the text of an answer and of the hope that goes with it, with the names of the processes, the word that fired and
+-- so many cache rows
+abbrev pub answer_text :
+    List (List ℕ) → DistributedAlphabet → List (List ℕ) → List ℕ → Answer → Option Hope → ℕ → List ℕ
+answer_text names alphabet scripts word answer hope cache =
     text_of ((answer_word answer ∷ []) ∷ number_line (codes "fired") (length word) ∷ bound_line alphabet cache
-    ∷ more_lines names alphabet scripts word answer)
+    ∷ more_lines names alphabet scripts word hope)
 
 -- ---- closed or not
 

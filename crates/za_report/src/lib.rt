@@ -4,6 +4,7 @@
 mod answer;
 mod bounds;
 mod closed;
+mod hope;
 mod locals;
 mod refused;
 #[cfg(test)]
@@ -14,6 +15,6 @@ mod verdict_tests;
 
 pub use answer::answer_text;
 pub use closed::{check_text, open_text};
-pub use locals::locals_text;
+pub use locals::{locals_text, push_known};
 pub use refused::refused_text;
 pub use verdict::audit_text;

@@ -1,4 +1,4 @@
-ghost use Rattle.std.specs.Prelude.{◌≡◌, ◌↔◌, false};
+ghost use Rattle.std.specs.Prelude.{◌≡◌, ◌↔◌, false, IsTrue, is_some};
 
 use super::*;
 use std::alloc::Global;
@@ -6,6 +6,7 @@ use std::process::Abort;
 use std::test::Fail;
 use za_alpha::{Alphabet, Letter, LetterRow, OutOfMemory, Word};
 use za_dfa::{Closed, Dfa};
+use za_min::Hope;
 use za_script::{Answer, Scripts, Woven, weave};
 use za_table::solo;
 use za_text::{Kind, Names, TextFault};
@@ -45,6 +46,17 @@ fn answer_by(woven: &Woven, accepts: bool) -> Answer
     }
 }
 
+/// This hope where the answer is stuck, else none.
+fn hope_with(answer: Answer, hope: Hope) -> Option<Hope>
+    ensures { IsTrue (is_some result) ↔ answer ≡ Answer.Stuck }
+{
+    if let Answer::Stuck = answer {
+        Some(hope)
+    } else {
+        None
+    }
+}
+
 /// Scripts of these letters, each with its process.
 fn scripts_of(
     rt: &impl Abort,
@@ -61,22 +73,27 @@ fn scripts_of(
     Ok(scripts)
 }
 
-/// The text of the answer to scripts, where the woven word is accepted, or isn't.
+/// The text of the answer to scripts, where the woven word is accepted, or isn't, and of this hope where
+/// they are stuck.
 fn text_for(
     rt: &impl Abort,
     alloc: Global,
     alphabet: &Alphabet,
     letters: &[(usize, u8)],
     accepts: bool,
+    hope: Hope,
     cache: u8,
 ) -> Result<Vec<u8>, Fail> {
     let scripts = scripts_of(rt, alloc, alphabet, letters)?;
     assert!(rt; scripts.fits(alphabet));
     let woven = weave(alloc, alphabet, &scripts)?;
     let answer = answer_by(&woven, accepts);
+    let hope = hope_with(answer, hope);
     let names = Names::numbers(alloc, alphabet.processes())?;
     assert!(rt; names.len() == alphabet.processes());
-    Ok(answer_text(alloc, &names, alphabet, &scripts, &woven, answer, cache)?)
+    Ok(answer_text(
+        alloc, &names, alphabet, &scripts, &woven, answer, hope, cache,
+    )?)
 }
 
 #[test]
@@ -84,34 +101,45 @@ fn texts_of_answers(rt: HostRuntime) -> Result<(), Fail> {
     let alloc = rt.alloc();
     let all: &[(usize, u8)] = &[(0, 0), (0, 2), (0, 0), (1, 1), (1, 2)];
     let few: &[(usize, u8)] = &[(0, 2), (0, 0), (1, 1)];
-    for (letters, accepts, cache, wanted) in [
+    for (letters, accepts, hope, cache, wanted) in [
         (
             all,
             true,
+            Hope::Dead,
             0u8,
             "accept\nfired 4\nbound labels 27 records 3\n",
         ),
         (
             all,
             false,
+            Hope::Dead,
             4,
             "reject\nfired 4\nbound labels 27 records 15\n",
         ),
         (
             few,
             true,
+            Hope::Alive,
             0,
             "stuck\nfired 1\nbound labels 27 records 3\nprocess 0 fired 0 waits c\n\
-            process 1 fired 1 ended\ntrace b\n",
+            process 1 fired 1 ended\ntrace b\nalive\n",
+        ),
+        (
+            few,
+            true,
+            Hope::Dead,
+            0,
+            "stuck\nfired 1\nbound labels 27 records 3\nprocess 0 fired 0 waits c\n\
+            process 1 fired 1 ended\ntrace b\ndead\n",
         ),
     ] {
-        let text = text_for(&rt, alloc, &two(alloc)?, letters, accepts, cache)?;
+        let text = text_for(&rt, alloc, &two(alloc)?, letters, accepts, hope, cache)?;
         assert!(rt; text.as_slice() == wanted.as_bytes(), "{wanted}");
     }
     let circle: &[(usize, u8)] = &[(0, 0), (0, 2), (1, 1), (1, 0), (2, 2), (2, 1)];
-    let text = text_for(&rt, alloc, &ring(alloc)?, circle, true, 0)?;
+    let text = text_for(&rt, alloc, &ring(alloc)?, circle, true, Hope::Alive, 0)?;
     let wanted = "stuck\nfired 0\nbound labels 84 records 4\nprocess 0 fired 0 waits x\n\
-        process 1 fired 0 waits y\nprocess 2 fired 0 waits z\ntrace\n";
+        process 1 fired 0 waits y\nprocess 2 fired 0 waits z\ntrace\nalive\n";
     assert!(rt; text.as_slice() == wanted.as_bytes());
     Ok(())
 }

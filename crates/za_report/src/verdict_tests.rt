@@ -2,6 +2,7 @@ use super::*;
 use std::test::Fail;
 use za_alpha::{Alphabet, Letter, LetterRow};
 use za_audit::Audit;
+use za_min::Hope;
 use za_script::Answer;
 
 #[test]
@@ -18,7 +19,19 @@ fn verdicts_have_texts(rt: HostRuntime) -> Result<(), Fail> {
     assert!(rt; alphabet.letters() == 2);
     let defined = Answer::Accept;
     for (audit, text) in [
-        (Audit::Yes, b"audit yes\n".as_slice()),
+        (Audit::Yes { hope: None }, b"audit yes\n".as_slice()),
+        (
+            Audit::Yes {
+                hope: Some(Hope::Alive),
+            },
+            b"audit yes alive\n".as_slice(),
+        ),
+        (
+            Audit::Yes {
+                hope: Some(Hope::Dead),
+            },
+            b"audit yes dead\n".as_slice(),
+        ),
         (
             Audit::BadLetter { at: 0 },
             b"audit bad letter 0\n".as_slice(),

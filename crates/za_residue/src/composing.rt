@@ -12,7 +12,7 @@ ghost use Rattle.za_residue.specs.Private.Turns.{turn_of, CanBeTaken};
 use crate::leaving::first_omitted;
 use crate::masks::Masks;
 use crate::residues::Residues;
-use crate::writing::{TABLE_STATES, set_column, write_sets};
+use crate::writing::{Event, TABLE_STATES, set_column, write_sets};
 use za_alpha::{Letter, MOST_PROCESSES, Procs};
 use za_dfa::Closed;
 
@@ -38,12 +38,15 @@ pub fn advance(closed: &Closed, a: Letter, inputs: &[Residues], masks: &Masks, i
     let mut steps = [0; TABLE_STATES];
     set_column(closed, a, &mut steps);
     let omitted = first_omitted(masks, inputs.len());
-    write_sets(
+    let event = Event {
         closed,
         a,
-        &steps,
+        steps: steps.as_slice(),
         inputs,
         masks,
+    };
+    write_sets(
+        &event,
         Procs::none(),
         processes,
         &omitted,

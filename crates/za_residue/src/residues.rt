@@ -3,6 +3,7 @@ ghost use Rattle.za_dfa.specs.Automata.{Automaton};
 ghost use Rattle.za_residue.specs.Functions.{identities, value_at};
 ghost use Rattle.za_residue.specs.Residues.{residues_after};
 
+use crate::writing::write_identities;
 use std::alloc::Global;
 use std::marker::Model;
 use za_alpha::{OutOfMemory, Procs};
@@ -42,10 +43,8 @@ impl Residues {
             r ≡ residues_after loc n d [] p) }
     {
         let total = set_count(n) * states;
-        let mut values = Vec::with_capacity(alloc, total)?;
-        for i in 0..total {
-            values.push((i % states) as u8)?;
-        }
+        let mut values = vec![in alloc; 0; total]?;
+        write_identities(n, states, values.as_mut_slice());
         Ok(Residues {
             processes: n,
             states,

@@ -1,6 +1,6 @@
 //! The functions after an event, written block by block.
 
-ghost use Rattle.std.specs.Prelude.{◌≡◌, ℕ, ◌+◌, ◌*◌, ◌^◌, ◌<◌, ◌≤◌, List, length, slice_index, IsFalse};
+ghost use Rattle.std.specs.Prelude.{◌≡◌, ℕ, ◌+◌, ◌*◌, ◌^◌, ◌<◌, ◌≤◌, ◌++◌, List, length, take, slice_index, IsFalse};
 ghost use Rattle.za_alpha.specs.Words.{has, meets};
 ghost use Rattle.za_alpha.specs.Procs.{members};
 ghost use Rattle.za_alpha.specs.Alphabet.{loc_of};
@@ -21,68 +21,82 @@ pub(crate) const TABLE_STATES: usize = MOST_STATES + 1;
 /// No process, for each input.
 const NO_SETS: [Procs; MOST_PROCESSES] = [Procs(0); MOST_PROCESSES];
 
+/// An event of a letter, as far as functions go: where the letter leads from each state, by state, and
+/// what the letter's participants have before it and share.
+#[derive(Clone, Copy)]
+pub(crate) struct Event<'a> {
+    pub(crate) closed: &'a Closed,
+    pub(crate) a: Letter,
+    pub(crate) steps: &'a [u8],
+    pub(crate) inputs: &'a [Residues],
+    pub(crate) masks: &'a Masks,
+}
+
 /// Writes the functions after the event for a set, which has no participant, with each set of the
 /// first `processes` processes: half of them without the last of these, and then the others. Where
 /// the last changes nothing of what is left out of the inputs, the others are the same.
 pub(crate) fn write_sets(
-    closed: &Closed,
-    a: Letter,
-    steps: &[u8],
-    inputs: &[Residues],
-    masks: &Masks,
+    event: &Event,
     set: Procs,
     processes: usize,
     omitted: &[Procs; MOST_PROCESSES],
     block: &mut [u8],
 )
-    requires letter { a.0 < length closed.now.alphabet.letters }
-    requires given { (w : List ℕ) × AreGiven closed.now a.0 inputs.now masks.now w }
-    requires steps { AreSteps closed.now a.0 steps.now }
-    requires processes { processes ≤ closed.now.alphabet.processes }
-    requires apart { IsFalse (meets (members set) (loc_of closed.now.alphabet a.0)) }
-    requires omitted { AreOmitted masks.now closed.now.alphabet.processes (has (members set)) (length inputs.now)
-        omitted.now }
-    requires block { length block.old ≡ 2 ^ processes * closed.now.states }
-    ensures { AreWritten closed.now a.0 inputs.now masks.now (has (members set)) (2 ^ processes) block.new }
+    requires letter { event.now.a.0 < length event.now.closed.now.alphabet.letters }
+    requires given { (w : List ℕ)
+        × AreGiven event.now.closed.now event.now.a.0 event.now.inputs.now event.now.masks.now w }
+    requires steps { AreSteps event.now.closed.now event.now.a.0 event.now.steps.now }
+    requires processes { processes ≤ event.now.closed.now.alphabet.processes }
+    requires apart { IsFalse (meets (members set) (loc_of event.now.closed.now.alphabet event.now.a.0)) }
+    requires omitted { AreOmitted event.now.masks.now event.now.closed.now.alphabet.processes (has (members set))
+        (length event.now.inputs.now) omitted.now }
+    requires block { length block.old ≡ 2 ^ processes * event.now.closed.now.states }
+    ensures { AreWritten event.now.closed.now event.now.a.0 event.now.inputs.now event.now.masks.now
+        (has (members set)) (2 ^ processes) block.new }
 {
-    let dfa = closed.dfa();
+    let dfa = event.closed.dfa();
     let states = dfa.states();
     if processes == 0 {
-        write_composed(states, inputs, omitted, block);
-        follow(steps, block);
+        write_composed(states, event.inputs, omitted, block);
+        follow(event.steps, block);
         return;
     }
     let r = processes - 1;
     let half = set_count(r) * states;
     let (low, high) = block.split_at_mut(half);
-    write_sets(closed, a, steps, inputs, masks, set, r, omitted, low);
-    if dfa.alphabet().loc(a).has(r) {
+    write_sets(event, set, r, omitted, low);
+    if dfa.alphabet().loc(event.a).has(r) {
         write_identities(r, states, high);
         return;
     }
     let mut more = NO_SETS;
-    if join_sets(masks, omitted, r, inputs.len(), &mut more) {
+    if join_sets(event.masks, omitted, r, event.inputs.len(), &mut more) {
         high.copy_from_slice(low);
         return;
     }
-    write_sets(closed, a, steps, inputs, masks, set.with(r), r, &more, high);
+    write_sets(event, set.with(r), r, &more, high);
 }
 
 /// Writes each state, for each set of so many processes.
-fn write_identities(processes: usize, states: usize, block: &mut [u8])
+pub(crate) fn write_identities(processes: usize, states: usize, block: &mut [u8])
     requires processes { processes ≤ 16 }
     requires states { states ≤ 256 }
     requires block { length block.old ≡ 2 ^ processes * states }
     ensures { (m q : ℕ) → m < 2 ^ processes → q < states → slice_index block.new (m * states + q) ≡ q }
 {
-    if processes == 0 {
-        write_identity(block);
-        return;
+    write_identity(&mut block[..states]);
+    for p in 0..processes {
+        let half = set_count(p) * states;
+        double(&mut block[..half + half], half);
     }
-    let r = processes - 1;
-    let half = set_count(r) * states;
+}
+
+/// Writes the first half once more behind itself.
+fn double(block: &mut [u8], half: usize)
+    requires { length block.old ≡ half + half }
+    ensures { block.new ≡ take half block.old ++ take half block.old }
+{
     let (low, high) = block.split_at_mut(half);
-    write_identities(r, states, low);
     high.copy_from_slice(low);
 }
 

@@ -3,7 +3,8 @@ ghost use Rattle.std.specs.Prelude.{◌≡◌, ◌⊎◌, ℕ, ◌+◌, ◌≤�
 ghost use Rattle.za_alpha.specs.Words.{has};
 ghost use Rattle.za_script.specs.ScriptLists.{FitAlphabet};
 ghost use Rattle.za_table.specs.Ends.{IsEnded, HasAnswer};
-ghost use Rattle.za_hall.specs.Halls.{IsOf};
+ghost use Rattle.za_hall.specs.Halls.{IsOf, AreDesks};
+ghost use Rattle.za_table.specs.Tables.{machine_of};
 ghost use Rattle.za_runner.specs.Private.Lists.{numbers, AreOf, AreIn, promised};
 
 use crate::gate::Gate;
@@ -135,6 +136,60 @@ fn flags(alloc: Global, count: usize) -> Result<Vec<AtomicU64>, OutOfMemory>
     Ok(flags)
 }
 
+/// What a run needs beside its hall: a flag for each worker, and room for their handles and for the
+/// desks that come back.
+#[derive(Drop)]
+struct Rooms {
+    flags: Vec<AtomicU64>,
+    handles: Vec<Handle>,
+    mine: Vec<Desk>,
+}
+
+/// All memory that a run needs beside its hall.
+fn make_rooms(alloc: Global, count: usize) -> Result<Rooms, OutOfMemory>
+    ensures flags { IfOk result (λ r. length r.flags.items ≡ count) }
+    ensures empty { IfOk result (λ r. (r.handles.items ≡ []) × (r.mine.items ≡ [])) }
+    ensures room { IfOk result (λ r. (count ≤ vec_capacity r.handles) × (count ≤ vec_capacity r.mine)) }
+{
+    let flags = flags(alloc, count)?;
+    let handles = Vec::with_capacity(alloc, count)?;
+    let mine = Vec::with_capacity(alloc, count)?;
+    Ok(Rooms {
+        flags,
+        handles,
+        mine,
+    })
+}
+
+/// Runs all desks of a hall, and closes it.
+fn run_hall<R: Threads + Wait + Sync, G: Gate>(
+    rt: &R,
+    hall: Hall,
+    desks: Vec<Desk>,
+    gate: &G,
+    rooms: Rooms,
+) -> HallEnded
+    requires desks { AreDesks hall (machine_of hall.given).processes desks.items }
+    requires flags { length desks.items ≤ length rooms.flags.items }
+    requires empty { (rooms.handles.items ≡ []) × (rooms.mine.items ≡ []) }
+    requires room { (length desks.items ≤ vec_capacity rooms.handles)
+        × (length desks.items ≤ vec_capacity rooms.mine) }
+    ensures given { result.given ≡ hall.given }
+    ensures over { IsEnded result }
+    ensures answer { HasAnswer result }
+{
+    let Rooms {
+        flags,
+        handles,
+        mine,
+    } = rooms;
+    let back = run_all(rt, &hall, gate, &flags, desks, handles, mine);
+    match hall.close(back) {
+        Ok(ended) => ended,
+        Err(_) => unreachable!(),
+    }
+}
+
 /// Runs the scripts with a thread for each process, until all is over. Worker `p` is a thread that owns
 /// the desk of process `p`: it passes `gate` before each of its steps, and steps until all is over. Where
 /// a thread can't be started, its worker is called off, and the caller steps that desk itself; there is
@@ -157,13 +212,7 @@ pub fn run<R: Threads + Wait + Sync, G: Gate>(
 {
     let count = closed.dfa().alphabet().processes();
     let table = Table::open(alloc, closed, scripts, cache)?;
-    let flags = flags(alloc, count)?;
-    let handles = Vec::with_capacity(alloc, count)?;
-    let mine = Vec::with_capacity(alloc, count)?;
+    let rooms = make_rooms(alloc, count)?;
     let (hall, desks) = Hall::open(alloc, table)?;
-    let back = run_all(rt, &hall, gate, &flags, desks, handles, mine);
-    match hall.close(back) {
-        Ok(ended) => Ok(ended),
-        Err(_) => unreachable!(),
-    }
+    Ok(run_hall(rt, hall, desks, gate, rooms))
 }

@@ -7,4 +7,5 @@ pub mod Firing
 pub mod Standing
 pub mod GoingOn
 pub mod Alike
+pub mod RestLists
 mod Examples

@@ -4,6 +4,7 @@
 mod answer;
 mod fault;
 mod laws;
+mod rest;
 mod scripts;
 mod weaving;
 mod woven;
@@ -11,6 +12,7 @@ mod woven;
 pub use answer::{Answer, answer_of};
 pub use fault::{MOST_SCRIPT_LETTERS, ScriptFault};
 pub use laws::{answer_is_of_the_weave, rest_answers_alike, weaving_goes_on, weaving_is_confluent};
+pub use rest::count_of;
 pub use scripts::Scripts;
 pub use woven::{Woven, weave};
 

@@ -14,8 +14,8 @@ use za_alpha::{Alphabet, Letter, OutOfMemory, Word};
 /// these words.
 #[derive(Debug, Drop)]
 pub struct Scripts {
-    words: Vec<Word>,
-    letters: usize,
+    pub(crate) words: Vec<Word>,
+    pub(crate) letters: usize,
 }
 
 impl Model for Scripts {

@@ -14,6 +14,10 @@ pub count-set : (k : ℕ) (keys : List ℕ) (p v : ℕ) → p < length keys →
     count_by (λ x. x == k) (set keys p v) + one (slice_index keys p) k ≡ count_by (λ x. x == k) keys + one v k
 count-set k keys p v l = let e = sum_by-set (λ (x : ℕ). cond {A = ℕ} (x == k) 1 0) keys p v 0 l in omega arith
 
+-- nobody has it at first
+pub given-none : (ps : List ℕ) (key : ℕ) (keys : List ℕ) (q : ℕ) → slice_index keys q ≡ key_given ps key 0 keys q
+given-none ps key keys q = sym (cond-false (nat_lt q 0 && has ps q) key (slice_index keys q) (ap (λ b. b && has ps q) (le-ltb q 0 (omega arith))))
+
 module _ (ps : List ℕ) (key p : ℕ) (keys : List ℕ) where
   pub given-at : key_given ps key p keys p ≡ slice_index keys p
   given-at = cond-false (nat_lt p p && has ps p) key (slice_index keys p) (ap (λ b. b && has ps p) (le-ltb p p (omega arith)))

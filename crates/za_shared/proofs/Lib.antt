@@ -12,3 +12,7 @@ pub mod Firing
 pub mod Openings
 pub mod Entering
 pub mod Placing
+pub mod Shelving
+pub mod Marking
+pub mod Holding
+pub mod Alone

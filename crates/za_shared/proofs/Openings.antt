@@ -3,6 +3,7 @@ use Rattle.std.proofs.Common.{◌≡◌, ℕ, zero, suc, ◌+◌, ◌^◌, ◌<�
 use Rattle.std.proofs.Common.{◌∙◌, arith, inl, inr, eq-eqb}
 use Rattle.std.specs.Prelude.{count_by, is_some}
 use Rattle.std.specs.List.{All}
+use Rattle.std.proofs.lemmas.Option.{slice_get-get_or, slice_get_within}
 use Rattle.std.proofs.lemmas.Bool.{cases_eq, cond-true}
 use Rattle.std.proofs.lemmas.List.{length-replicate, length-map, get_or-map, get_or-replicate}
 use Rattle.std.proofs.lemmas.List.Elements.{All-nil}
@@ -14,6 +15,7 @@ use Rattle.za_records.specs.Shelf.{Shelf, count, count_of, live, Changes}
 use Rattle.za_records.specs.declared.shelf.Counted.{Counted}
 use Rattle.za_shared.specs.Holders.{no_local, value, held_value}
 use Rattle.za_shared.specs.Records.{AreRecords, AreOpened, IsLine, bound}
+use Rattle.za_shared.specs.Marks.{mark, AreMarked}
 use Rattle.za_shared.specs.Private.Steps.{one}
 use Rattle.za_shared.proofs.Shelves.{one-other}
 use Rattle.za_shared.proofs.Carrying.{count-more}
@@ -91,3 +93,14 @@ module _ (d : CompleteDfa) (ok : IsComplete d) (cache : ℕ) (few : cache < 2 ^ 
         (λ p m. get_or-map (value s) keys p 0 no_local (let z = size in omega arith) ∙ ap (λ (ks : List ℕ). value s (get_or ks p 0)) each
         ∙ ap (value s) (get_or-replicate d.alphabet.processes p key 0 m) ∙ here ∙ opening p);
   }
+
+  -- all marks are that of the opening local state
+  pub opened-marks : (m n : ℕ) → m ≡ mark v → AreMarked s (replicate n m)
+  opened-marks m n e = λ k got some is.
+      let l = slice_get_within (replicate n m) k got is in
+      let size = length-replicate n m in
+      let a = slice_get-get_or (replicate n m) k 0 l in
+      let b = get_or-replicate n k m 0 (omega arith) in
+      let q : Some got ≡ Some m = sym is ∙ a ∙ ap Some b in
+      let same : got ≡ m = cc in
+      same ∙ e ∙ ap mark (sym here ∙ ap (value s) (sym (only k some)))

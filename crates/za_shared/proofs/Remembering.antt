@@ -70,6 +70,10 @@ module _ (r : Records) (ok : AreRecords r) (s t : Shelf LocalState) (spares : Li
     | inr f ↦ let a = more.counts k in let o = cond-false {A = ℕ} (is_named line.0.inputs line.1 k) 1 0 f in omega arith
   ]
 
+  -- what is live then was live before
+  pub remembered-old : HaveFewer s t r.spares spares (named_by kept) → (k : ℕ) → 0 < count t k → 0 < count r.shelf k
+  remembered-old fewer k n = before k (let e = fewer.counts k in omega arith)
+
   pub remembered : HaveFewer s t r.spares spares (named_by kept) → IsLine r.dfa r.shelf line →
       AreRecords (record r { cache = new.capacity; shelf = t; lines = new.lines; spares = spares })
   remembered fewer is =

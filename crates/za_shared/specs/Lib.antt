@@ -1,3 +1,4 @@
 pub mod Holders
 pub mod Records
+pub mod Marks
 pub mod Private

@@ -1,14 +1,18 @@
 //! Holders of records: who begins to hold one, and who lets it go.
 
-ghost use Rattle.std.specs.Prelude.{◌≡◌, ◌≢◌, ◌<◌, ◌≤◌, ◌+◌, ◌^◌, ◌⊎◌, ℕ, IsTrue, MatchBool, true, false};
-ghost use Rattle.std.specs.Prelude.{length, take, slice_index, vec_capacity};
+ghost use Rattle.std.specs.Prelude.{◌≡◌, ◌≢◌, ◌<◌, ◌≤◌, ◌+◌, ◌^◌, ◌⊎◌, ◌∷◌, ◌++◌, [], ℕ};
+ghost use Rattle.std.specs.Prelude.{IsTrue, MatchBool, true, false, length, take, slice_index, vec_capacity};
 ghost use Rattle.za_alpha.specs.Words.{has};
 ghost use Rattle.za_records.specs.Shelf.{count, live};
-ghost use Rattle.za_shared.specs.Holders.{is_named};
+ghost use Rattle.za_local.specs.Locals.{HasShape};
+ghost use Rattle.za_shared.specs.Holders.{value, is_named};
+ghost use Rattle.za_shared.specs.Marks.{AreMarked};
 ghost use Rattle.za_shared.specs.Private.Steps.{one, named_by_line, named_before, named_by, HaveMore, HaveFewer};
+ghost use Rattle.za_shared.specs.Private.Steps.{HasShelved};
 
+use crate::marks::{mark_of, set_mark};
 use za_cache::Kept;
-use za_local::Local;
+use za_local::{Bench, Local};
 use za_records::{Key, Shelf};
 
 /// One holder more.
@@ -30,6 +34,63 @@ pub(crate) fn let_go(shelf: &mut Shelf<Local>, spares: &mut Vec<Local>, key: u32
     if let Some(spare) = shelf.release(Key(key)) {
         spares.push_reserved(spare);
     }
+}
+
+/// One holder fewer, and the local state is put on the bench beside the others: a copy where somebody
+/// still holds it, and else itself, in exchange for what the bench had there, which is spare then.
+pub(crate) fn let_go_onto(
+    shelf: &mut Shelf<Local>,
+    spares: &mut Vec<Local>,
+    key: u32,
+    bench: &mut Bench,
+)
+    requires live { 0 < count shelf.old key }
+    requires room { live shelf.old + length spares.old.items ≤ vec_capacity spares.old }
+    requires place { length bench.old.locals < bench.old.processes }
+    requires shape { HasShape bench.old.processes bench.old.states (value shelf.old key) }
+    ensures fewer { HaveFewer shelf.old shelf.new spares.old.items spares.new.items (one key) }
+    ensures capacity { vec_capacity spares.new ≡ vec_capacity spares.old }
+    ensures bench { bench.new ≡ record bench.old { locals = bench.old.locals ++ value shelf.old key ∷ [] } }
+{
+    match shelf.release(Key(key)) {
+        Some(local) => {
+            let mut local = local;
+            bench.exchange(&mut local);
+            spares.push_reserved(local);
+        }
+        None => bench.add(shelf.get(Key(key))),
+    }
+}
+
+/// Puts a local state on the shelf with so many holders. Where an equal one is there, that one gets
+/// them, and this is spare. Keys have their values' marks.
+pub(crate) fn shelve(
+    shelf: &mut Shelf<Local>,
+    spares: &mut Vec<Local>,
+    marks: &mut [u32],
+    local: Local,
+    holders: u32,
+) -> u32
+    requires room { live shelf.old < shelf.old.capacity }
+    requires spare { length spares.old.items < vec_capacity spares.old }
+    requires some { 0 < holders }
+    requires few { (k : ℕ) → count shelf.old k + holders < 2 ^ 32 }
+    requires marks { AreMarked shelf.old marks.old }
+    ensures shelved { HasShelved shelf.old shelf.new spares.old.items spares.new.items local holders result }
+    ensures marks { AreMarked shelf.new marks.new }
+    ensures size { length marks.new ≡ length marks.old }
+    ensures capacity { vec_capacity spares.new ≡ vec_capacity spares.old }
+{
+    let _live = shelf.live();
+    let mark = mark_of(&local);
+    if let Some(key) = shelf.same_marked(&local, marks, mark) {
+        shelf.hold(key, holders);
+        spares.push_reserved(local);
+        return key.0;
+    }
+    let key = shelf.put(local, holders);
+    set_mark(marks, key.0, mark);
+    key.0
 }
 
 /// Whether the key at place `i` isn't the output, and stands at no place before it.

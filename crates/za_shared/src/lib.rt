@@ -3,6 +3,7 @@
 #![tactic(auto)]
 
 mod holders;
+mod marks;
 mod opening;
 mod seats;
 mod shared;

@@ -8,9 +8,9 @@ ghost use Rattle.za_alpha.specs.Procs.{members};
 ghost use Rattle.za_records.specs.Shelf.{count, live};
 ghost use Rattle.za_local.specs.Locals.{HasShape};
 ghost use Rattle.za_shared.specs.Holders.{value, values_at};
-ghost use Rattle.za_shared.specs.Private.Steps.{one, key_given, HaveChanged};
+ghost use Rattle.za_shared.specs.Private.Steps.{one, key_given, held_by, HaveChanged, HaveFewer, HaveTurned};
 
-use crate::holders::{hold, let_go};
+use crate::holders::{hold, let_go, let_go_onto};
 use smallvec::SmallVec;
 use std::alloc::Global;
 use za_alpha::Procs;
@@ -47,6 +47,48 @@ pub(crate) fn gather(shelf: &Shelf<Local>, keys: &[u32], processes: Procs, bench
     for p in 0..keys.len() {
         if processes.has(p) {
             bench.add(shelf.get(Key(keys[p])));
+        }
+    }
+}
+
+/// These processes let go of their keys, and their local states are put on the bench, in rising order,
+/// in place of what it had: copies of those that others hold, and the others themselves.
+pub(crate) fn vacate(
+    shelf: &mut Shelf<Local>,
+    spares: &mut Vec<Local>,
+    keys: &[u32],
+    processes: Procs,
+    bench: &mut Bench,
+)
+    requires few { length keys.now ≤ most_processes }
+    requires each { length keys.now ≡ bench.old.processes }
+    requires within { (p : ℕ) → IsTrue (has (members processes) p) → p < length keys.now }
+    requires held { (k : ℕ) → count_by (λ x. x == k) keys.now ≤ count shelf.old k }
+    requires shaped { (k : ℕ) → 0 < count shelf.old k →
+        HasShape bench.old.processes bench.old.states (value shelf.old k) }
+    requires room { live shelf.old + length spares.old.items ≤ vec_capacity spares.old }
+    ensures fewer { HaveFewer shelf.old shelf.new spares.old.items spares.new.items
+        (held_by keys.now (members processes)) }
+    ensures capacity { vec_capacity spares.new ≡ vec_capacity spares.old }
+    ensures bench { bench.new ≡ record bench.old { locals = values_at shelf.old keys.now (members processes) } }
+{
+    bench.clear();
+    for p in 0..keys.len() {
+        if processes.has(p) {
+            let_go_onto(shelf, spares, keys[p], bench);
+        }
+    }
+}
+
+/// Writes the key for these processes, in place of their own.
+pub(crate) fn turn(keys: &mut [u32], processes: Procs, key: u32)
+    requires few { length keys.old ≤ most_processes }
+    requires within { (p : ℕ) → IsTrue (has (members processes) p) → p < length keys.old }
+    ensures { HaveTurned keys.old keys.new (members processes) key }
+{
+    for p in 0..keys.len() {
+        if processes.has(p) {
+            keys[p] = key;
         }
     }
 }

@@ -16,12 +16,13 @@ ghost use Rattle.za_cache.specs.Lines.{is_key};
 ghost use Rattle.za_shared.specs.Holders.{value, values_at};
 ghost use Rattle.za_shared.specs.Records.{bound, locals_of, AreRecords, AreOpened, AreOfAWord};
 ghost use Rattle.za_shared.specs.Records.{IsTransition, IsRemembered, HasFired};
-ghost use Rattle.za_shared.specs.Private.Steps.{one, key_given, last_of, IsMade};
+ghost use Rattle.za_shared.specs.Private.Steps.{one, key_given, last_of, IsMade, IsUsable};
 ghost use Rattle.za_shared.specs.Private.Steps.{HaveMore, HasAdopted, HasEntered, HasObtained};
 
-use crate::holders::{hold, hold_line, let_go, let_go_kept};
+use crate::holders::{hold, hold_line, let_go, let_go_kept, shelve};
+use crate::marks::mark_of;
 use crate::opening::{openings, rows_for};
-use crate::seats::{are_on, gather, gather_all, give, keys_of};
+use crate::seats::{are_on, gather, gather_all, give, keys_of, turn, vacate};
 use std::alloc::Global;
 use std::marker::Model;
 use za_alpha::{Letter, OutOfMemory, Procs};
@@ -50,6 +51,8 @@ pub struct SharedLocals {
     keys: Vec<u32>,
     rows: Option<Rows>,
     bench: Bench,
+    /// By key, the mark of its record, if it is live.
+    marks: Vec<u32>,
 }
 
 impl Model for SharedLocals {
@@ -75,7 +78,9 @@ impl SharedLocals {
         let bound = n + 1 + (n + 1) * cache as usize;
         let mut shelf = Shelf::new(alloc, bound)?;
         let spares = openings(alloc, &closed, bound - 1)?;
-        let key = shelf.put(opening(alloc, &closed)?, n as u32);
+        let first = opening(alloc, &closed)?;
+        let marks = vec![in alloc; mark_of(&first); bound]?;
+        let key = shelf.put(first, n as u32);
         let keys = vec![in alloc; key.0; n]?;
         let rows = rows_for(alloc, cache)?;
         let bench = Bench::new(alloc, &closed)?;
@@ -87,6 +92,7 @@ impl SharedLocals {
             keys,
             rows,
             bench,
+            marks,
         })
     }
 
@@ -230,24 +236,15 @@ impl SharedLocals {
     }
 
     /// The call holds a record that equals the last spare one from then on: one that is live, or the
-    /// spare itself. The search takes each live record, of which there are at most `bound`, up to the
-    /// first difference from the spare. Primary entries come first, in which different local states
-    /// mostly differ: so it reads a few numbers of each.
+    /// spare itself.
     fn adopt(&mut self)
         requires free { self.old.own ≡ [] }
         requires some { 0 < length self.old.spares }
         ensures { HasAdopted self.old self.new }
     {
-        let _live = self.shelf.live();
-        let last = self.spares.len() - 1;
-        if let Some(key) = self.shelf.same(&self.spares[last]) {
-            hold(&mut self.shelf, key.0);
-            self.own = Some(key.0);
-            return;
-        }
         if let Some(made) = self.spares.pop() {
-            let key = self.shelf.put(made, 1);
-            self.own = Some(key.0);
+            let key = shelve(&mut self.shelf, &mut self.spares, &mut self.marks, made, 1);
+            self.own = Some(key);
         }
     }
 
@@ -336,6 +333,68 @@ impl SharedLocals {
         self.enter(a, inputs.as_slice());
     }
 
+    /// What was made, where its bench has the participants' local states.
+    fn usable<'a>(
+        &self,
+        a: Letter,
+        participants: Procs,
+        made: Option<Made<'a>>,
+    ) -> Option<&'a Local>
+        requires letter { a.0 < length self.now.dfa.alphabet.letters }
+        requires participants { members participants ≡ loc_of self.now.dfa.alphabet a.0 }
+        requires locals { AreOfAWord self.now }
+        requires made { IfSome made (λ m. IsMade self.now.dfa a.0 m.bench.now m.output.now) }
+        ensures { IfSome result (λ local. IsUsable self.now.dfa a.0
+            (values_at self.now.shelf self.now.keys (members participants)) local.now) }
+    {
+        match made {
+            Some(made) => {
+                if are_on(&self.shelf, &self.keys, participants, made.bench) {
+                    Some(made.output)
+                } else {
+                    None
+                }
+            }
+            None => None,
+        }
+    }
+
+    /// Fires a letter where there is no cache. The participants let go of their records first: those
+    /// that nobody else holds go to the bench themselves, and are spare afterwards.
+    fn fire_alone(&mut self, a: Letter, participants: Procs, made: Option<Made>)
+        requires none { self.old.cache ≡ 0 }
+        requires letter { a.0 < length self.old.dfa.alphabet.letters }
+        requires participants { members participants ≡ loc_of self.old.dfa.alphabet a.0 }
+        requires free { self.old.own ≡ [] }
+        requires locals { AreOfAWord self.old }
+        requires made { IfSome made (λ m. IsMade self.old.dfa a.0 m.bench.now m.output.now) }
+        ensures fired { HasFired self.old self.new a.0 }
+        ensures records { AreRecords self.new }
+    {
+        let usable = self.usable(a, participants, made);
+        let _live = self.shelf.live();
+        let Some(local) = self.spares.pop() else {
+            unreachable!()
+        };
+        let mut local = local;
+        vacate(
+            &mut self.shelf,
+            &mut self.spares,
+            &self.keys,
+            participants,
+            &mut self.bench,
+        );
+        make(&self.closed, a, &self.bench, usable, &mut local);
+        let key = shelve(
+            &mut self.shelf,
+            &mut self.spares,
+            &mut self.marks,
+            local,
+            self.bench.len() as u32,
+        );
+        turn(&mut self.keys, participants, key);
+    }
+
     /// Fires a letter, with what was made where there is that.
     fn fire_by(&mut self, a: Letter, participants: Procs, made: Option<Made>)
         requires letter { a.0 < length self.old.dfa.alphabet.letters }
@@ -346,6 +405,10 @@ impl SharedLocals {
         ensures fired { HasFired self.old self.new a.0 }
         ensures records { AreRecords self.new }
     {
+        if self.rows.is_none() {
+            self.fire_alone(a, participants, made);
+            return;
+        }
         self.obtain(a, participants, made);
         if let Some(key) = self.own {
             self.hand_over(participants, key);
@@ -389,5 +452,22 @@ impl SharedLocals {
                 output: made,
             }),
         );
+    }
+}
+
+/// Writes the transition of what stands on the bench: what was made elsewhere, if it is usable, and
+/// else it is computed now.
+fn make(closed: &Closed, a: Letter, bench: &Bench, usable: Option<&Local>, into: &mut Local)
+    requires letter { a.0 < length closed.now.alphabet.letters }
+    requires locals { (w : List ℕ) × AreLocalsAfter closed.now w (loc_of closed.now.alphabet a.0) bench.now.locals }
+    requires usable { IfSome usable (λ local. IsUsable closed.now a.0 bench.now.locals local.now) }
+    requires shape { HasShape closed.now.alphabet.processes closed.now.states into.old }
+    ensures { IsUsable closed.now a.0 bench.now.locals into.new }
+{
+    match usable {
+        Some(made) => into.copy_from(made),
+        None => {
+            transit(closed, a, bench, into);
+        }
     }
 }

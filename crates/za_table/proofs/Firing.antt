@@ -1,9 +1,11 @@
 -- A table after a firing.
-use Rattle.std.proofs.Common.{◌≡◌, ℕ, ◌<◌, ◌≤◌, true, List, [], ◌∷◌, ◌++◌, Bool, Option, length, slice_index, refl, sym, ap, subst, ◌∙◌, arith, length-append}
+use Rattle.std.proofs.Common.{◌≡◌, ℕ, ◌<◌, ◌≤◌, true, List, [], ◌∷◌, ◌++◌, Bool, Option, length, slice_index, slice_set, refl, sym, ap, subst, ◌∙◌, arith, length-append}
 use Rattle.std.proofs.lemmas.List.{length-map}
 use Rattle.za_alpha.specs.declared.word.Letter.{Letter}
 use Rattle.za_alpha.specs.Letters.{numbers}
 use Rattle.za_alpha.specs.Words.{has}
+use Rattle.za_alpha.specs.declared.procs.Procs.{Procs}
+use Rattle.za_alpha.specs.Procs.{members}
 use Rattle.za_alpha.specs.Alphabet.{loc_of}
 use Rattle.za_dfa.specs.Tables.{CompleteDfa}
 use Rattle.za_script.specs.Scripts.{total}
@@ -17,10 +19,11 @@ use Rattle.za_shared.specs.Records.{Records, AreRecords, HasFired}
 use Rattle.za_table.specs.declared.table.Table.TheInside.{Inside}
 use Rattle.za_table.specs.declared.progress.Progress.{Progress}
 use Rattle.za_table.specs.Tables.{Given, IsTable, machine_of, label_at}
-use Rattle.za_table.specs.Private.Steps.{HasAppended, IsProgress}
+use Rattle.za_table.specs.Private.Steps.{HasAppended, IsProgress, AreAllMissing}
 use Rattle.za_table.specs.Private.Inside.{given_in, state_in, table_in, IsTableInside}
 use Rattle.za_table.proofs.Keeping.{machine, sound, fires}
 use Rattle.za_table.proofs.Progressing.{appended}
+use Rattle.za_table.proofs.Missing.{missing-fired}
 
 module _ (t : Inside) (ok : IsTableInside t) (a : ℕ) (h : IsAllowed (machine_of (given_in t)) (state_in t) (Fire a)) where
   long : length (numbers t.progress.journal.items) ≡ length t.progress.journal.items
@@ -78,3 +81,12 @@ module _ (t : Inside) (ok : IsTableInside t) (a : ℕ) (h : IsAllowed (machine_o
     progress-after = subst (λ (g : Given). IsProgress (machine_of g) q) (sym same)
         (appended (machine_of (given_in t)) t.progress q a (label_at t.shared.dfa (numbers t.progress.journal.items ++ a ∷ []) (length t.progress.journal.items))
         (machine (table_in t) ok.table) ok.progress here ok.table.locals.word h.0 refl)
+
+    pub missing-after : (all : Procs) → members all ≡ loc_of t.shared.dfa.alphabet a →
+        AreAllMissing (machine_of (record { dfa = r.dfa; scripts = t.scripts }))
+        (record { journal = numbers q.journal.items; arrived = q.arrived.items; ended = q.ended.items }) (slice_set t.missing.items a all)
+    missing-after all are =
+        subst (λ (g : Given). AreAllMissing (machine_of g) (record { journal = numbers q.journal.items; arrived = q.arrived.items; ended = q.ended.items }) (slice_set t.missing.items a all))
+        (sym same)
+        (subst (λ (c : State). AreAllMissing (machine_of (given_in t)) c (slice_set t.missing.items a all)) (sym state-after)
+        (missing-fired (machine_of (given_in t)) (state_in t) a h.1 t.missing.items ok.missing all are h.0))

@@ -9,3 +9,4 @@ pub mod Weaving
 pub mod Firing
 pub mod Endings
 pub mod Cleared
+pub mod Missing

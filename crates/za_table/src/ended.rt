@@ -57,6 +57,7 @@ impl Table {
             scripts,
             progress,
             hands: _,
+            missing: _,
         } = self;
         Ended {
             shared,

@@ -5,6 +5,7 @@ ghost use Rattle.std.specs.Prelude.{IsTrue, true, Some, None};
 ghost use Rattle.std.specs.List.{list_all};
 ghost use Rattle.za_alpha.specs.Words.{has};
 ghost use Rattle.za_alpha.specs.Letters.{numbers};
+ghost use Rattle.za_alpha.specs.Procs.{members};
 ghost use Rattle.za_alpha.specs.Alphabet.{loc_of};
 ghost use Rattle.za_dfa.specs.Automata.{HasDiamonds};
 ghost use Rattle.za_dfa.specs.Tables.{automaton_of};
@@ -21,9 +22,10 @@ ghost use Rattle.za_table.specs.Private.Steps.{HasAppended};
 
 use crate::arrival::Arrival;
 use crate::labels::latest_label;
+use crate::lists::without;
 use crate::progress::Progress;
 use crate::table::Table;
-use za_alpha::Letter;
+use za_alpha::{Letter, Procs};
 use za_local::{Bench, Local};
 use za_script::Answer;
 use za_shared::SharedLocals;
@@ -37,25 +39,14 @@ impl Table {
         ensures rest { self.new ≡ record self.old { state = arrive p self.old.state } }
         ensures answer { IsArrival (machine_of self.new.given) self.new.state p result }
     {
-        self.progress.arrived[p] = true;
-        self.arrival_of(p)
-    }
-
-    /// What the arrival of a process has come to, which has a next letter.
-    fn arrival_of(&self, p: usize) -> Arrival
-        requires process { p < self.now.given.dfa.alphabet.processes }
-        requires letter { fired_by (machine_of self.now.given) self.now.state.journal p <
-            length (script_of self.now.given.scripts p) }
-        ensures { IsArrival (machine_of self.now.given) self.now.state p result }
-    {
         let Some(letter) = self.next(p) else {
             unreachable!()
         };
-        let missing = self.missing(letter);
-        if missing.is_empty() {
-            return Arrival::Complete(letter);
-        }
-        Arrival::Short { letter, missing }
+        let at = letter.0 as usize;
+        let missing = without(self.missing[at], p);
+        self.progress.arrived[p] = true;
+        self.missing[at] = missing;
+        arrival_at(letter, missing)
     }
 
     /// Ends the process, whose script is used up. It has not ended.
@@ -79,6 +70,7 @@ impl Table {
     {
         let participants = self.participants(a);
         self.shared.fire(a, participants);
+        self.missing[a.0 as usize] = participants;
         append(&self.shared, &mut self.progress, a)
     }
 
@@ -120,6 +112,7 @@ impl Table {
         self.shared.settle(a, participants, bench, made);
         let letter = a.0 as usize;
         self.hands[letter] = None;
+        self.missing[letter] = participants;
         append(&self.shared, &mut self.progress, a)
     }
 
@@ -171,6 +164,17 @@ impl Table {
     }
 }
 
+/// What an arrival at a letter comes to, after which these processes are missing.
+fn arrival_at(letter: Letter, missing: Procs) -> Arrival
+    ensures complete { members missing ≡ [] → result ≡ Arrival.Complete letter }
+    ensures short { ¬ (members missing ≡ []) → result ≡ Arrival.Short letter missing }
+{
+    if missing.is_empty() {
+        return Arrival::Complete(letter);
+    }
+    Arrival::Short { letter, missing }
+}
+
 /// Appends the event of the letter, after which the processes have these local states, and answers its
 /// place.
 fn append(shared: &SharedLocals, progress: &mut Progress, a: Letter) -> usize
@@ -181,6 +185,8 @@ fn append(shared: &SharedLocals, progress: &mut Progress, a: Letter) -> usize
     requires labels { length progress.old.labels.items < vec_capacity progress.old.labels }
     requires counts { (p : ℕ) → IsTrue (has (loc_of shared.now.dfa.alphabet a.0) p) →
         slice_index progress.old.counts.items p < usize.MAX }
+    requires arrived { length progress.old.arrived.items ≡ length progress.old.counts.items }
+    requires latest { length progress.old.latest.items ≡ length progress.old.counts.items }
     ensures appended { HasAppended progress.old progress.new a.0
         (label_at shared.now.dfa (numbers progress.old.journal.items ++ a.0 ∷ []) (length progress.old.journal.items))
         (loc_of shared.now.dfa.alphabet a.0) }

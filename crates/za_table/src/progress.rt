@@ -5,7 +5,7 @@ ghost use Rattle.za_alpha.specs.Words.{has};
 ghost use Rattle.za_alpha.specs.Procs.{members};
 ghost use Rattle.za_table.specs.Private.Steps.{IsStarted, HasAppended};
 
-use crate::lists::{advance, clear, mark};
+use crate::lists::tally;
 use std::alloc::Global;
 use za_alpha::{Letter, OutOfMemory, Procs};
 
@@ -52,13 +52,19 @@ impl Progress {
         requires labels { length self.old.labels.items < vec_capacity self.old.labels }
         requires counts { (p : ℕ) → IsTrue (has (members processes) p) →
             slice_index self.old.counts.items p < usize.MAX }
+        requires arrived { length self.old.arrived.items ≡ length self.old.counts.items }
+        requires latest { length self.old.latest.items ≡ length self.old.counts.items }
         ensures appended { HasAppended self.old self.new a.0 label (members processes) }
         ensures at { result ≡ length self.old.journal.items }
     {
         let at = self.journal.len();
-        advance(&mut self.counts, processes);
-        clear(&mut self.arrived, processes);
-        mark(&mut self.latest, processes, at);
+        tally(
+            &mut self.counts,
+            &mut self.arrived,
+            &mut self.latest,
+            processes,
+            at,
+        );
         self.journal.push_reserved(a);
         self.labels.push_reserved(label);
         at

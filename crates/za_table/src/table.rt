@@ -14,9 +14,9 @@ ghost use Rattle.za_machine.specs.Machine.{initial, next, fired_by, is_in, is_co
 ghost use Rattle.za_machine.specs.Hands.{hand, no_hands, IsInHand};
 ghost use Rattle.za_shared.specs.Records.{bound, AreOpened};
 ghost use Rattle.za_table.specs.Tables.{machine_of, last_event, IsTable};
-ghost use Rattle.za_table.specs.Answers.{waits_at, AreMissing};
+ghost use Rattle.za_table.specs.Answers.{AreMissing};
 
-use crate::lists::is_next;
+use crate::lists::missing_at_first;
 use crate::progress::{Progress, nones};
 use std::alloc::Global;
 use std::marker::Model;
@@ -35,6 +35,8 @@ pub struct Table {
     pub(crate) scripts: Scripts,
     pub(crate) progress: Progress,
     pub(crate) hands: Vec<Option<usize>>,
+    /// For each letter, its processes that have not arrived at it.
+    pub(crate) missing: Vec<Procs>,
 }
 
 impl Model for Table {
@@ -69,12 +71,14 @@ impl Table {
         let letters = closed.dfa().alphabet().letters();
         let progress = Progress::start(alloc, scripts.processes(), scripts.total())?;
         let hands = nones(alloc, letters)?;
+        let missing = missing_at_first(alloc, closed.dfa().alphabet())?;
         let shared = SharedLocals::open(alloc, closed, cache)?;
         Ok(Table {
             shared,
             scripts,
             progress,
             hands,
+            missing,
         })
     }
 
@@ -209,29 +213,13 @@ impl Table {
         self.hands[a.0 as usize]
     }
 
-    /// Whether the process has arrived at the letter.
-    fn waits_at(&self, p: usize, a: Letter) -> bool
-        requires { p < self.now.given.dfa.alphabet.processes }
-        ensures { result ≡ waits_at (machine_of self.now.given) self.now.state a.0 p }
-    {
-        self.progress.arrived[p]
-            && is_next(self.scripts.script(p).letters(), self.progress.counts[p], a)
-    }
-
     /// The processes of the letter that have not arrived at it.
     pub fn missing(&self, a: Letter) -> Procs
         requires { a.0 < length self.now.given.dfa.alphabet.letters }
         ensures missing { AreMissing (machine_of self.now.given) self.now.state a.0 result }
         ensures none { (members result ≡ []) ↔ (is_complete (machine_of self.now.given) self.now.state a.0 ≡ true) }
     {
-        let participants = self.participants(a);
-        let mut missing = Procs::none();
-        for p in 0..self.processes() {
-            if participants.has(p) && !self.waits_at(p, a) {
-                missing = missing.with(p);
-            }
-        }
-        missing
+        self.missing[a.0 as usize]
     }
 
     /// Whether all processes of the letter have arrived at it.
@@ -239,13 +227,7 @@ impl Table {
         requires { a.0 < length self.now.given.dfa.alphabet.letters }
         ensures { result ≡ is_complete (machine_of self.now.given) self.now.state a.0 }
     {
-        let participants = self.participants(a);
-        for p in 0..self.processes() {
-            if participants.has(p) && !self.waits_at(p, a) {
-                return false;
-            }
-        }
-        true
+        self.missing(a).is_empty()
     }
 
     /// The letter at which the process waits, if that is complete and below `first`; else `first`.

@@ -7,7 +7,8 @@ use Rattle.za_text.specs.declared.kind.Kind.TheVariants.{EmptyLoc, NoSuchProcess
 use Rattle.za_text.specs.declared.kind.Kind.TheVariants.{NoSuchLetter, TwoTargets, NotOfProcess, ScriptsFull}
 use Rattle.za_text.specs.declared.kind.Kind.TheVariants.{NoSuchAnswer, ClaimFull, BadEvent, NoSuchLabel}
 use Rattle.za_text.specs.declared.kind.Kind.TheVariants.{WideProcesses, RepeatedProcess, WideLetters, WideStates}
-use Rattle.za_text.specs.declared.kind.Kind.TheVariants.{BadRepeat}
+use Rattle.za_text.specs.declared.kind.Kind.TheVariants.{BadRepeat, ExprHeader, ExprFull, BadExpr, ExprStates}
+use Rattle.za_text.specs.declared.kind.Kind.TheVariants.{NoSuchCut, NotOwn}
 
 -- the text of a kind
 abbrev pub kind_text : Kind → List ℕ
@@ -40,3 +41,9 @@ kind_text RepeatedProcess = codes "process is repeated"
 kind_text WideLetters = codes "more than 128 letters"
 kind_text WideStates = codes "states not in 1 to 128"
 kind_text BadRepeat = codes "bad repeat"
+kind_text ExprHeader = codes "header is not zla expr"
+kind_text ExprFull = codes "more than 64 expression words"
+kind_text BadExpr = codes "bad expression"
+kind_text ExprStates = codes "more than 128 states"
+kind_text NoSuchCut = codes "no such cut"
+kind_text NotOwn = codes "not the frozen text"

@@ -62,6 +62,18 @@ pub enum Kind {
     WideStates,
     /// Version 2: the part of a script's item after its `*` isn't a number, or is 0.
     BadRepeat,
+    /// A document with an expression: the first line with words isn't `zla expr`.
+    ExprHeader,
+    /// More than 64 words follow `expr`.
+    ExprFull,
+    /// The words after `expr` aren't an expression.
+    BadExpr,
+    /// The expression has more than 128 position values, which are the states of its table.
+    ExprStates,
+    /// The cut line's number is above the number of events that fire.
+    NoSuchCut,
+    /// The line is the first that isn't the frozen text's of this job and this number.
+    NotOwn,
 }
 
 /// The first wrong line of a text, by its number from 1 on, and what is wrong with it.
@@ -106,6 +118,12 @@ impl Kind {
             Kind::WideLetters => b"more than 128 letters",
             Kind::WideStates => b"states not in 1 to 128",
             Kind::BadRepeat => b"bad repeat",
+            Kind::ExprHeader => b"header is not zla expr",
+            Kind::ExprFull => b"more than 64 expression words",
+            Kind::BadExpr => b"bad expression",
+            Kind::ExprStates => b"more than 128 states",
+            Kind::NoSuchCut => b"no such cut",
+            Kind::NotOwn => b"not the frozen text",
         }
     }
 }

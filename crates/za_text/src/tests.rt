@@ -123,6 +123,10 @@ fn kinds_have_texts(rt: HostRuntime) {
         (Kind::WideProcesses, b"processes not in 1 to 10".as_slice()),
         (Kind::WideStates, b"states not in 1 to 128".as_slice()),
         (Kind::BadRepeat, b"bad repeat".as_slice()),
+        (Kind::ExprHeader, b"header is not zla expr".as_slice()),
+        (Kind::ExprFull, b"more than 64 expression words".as_slice()),
+        (Kind::BadExpr, b"bad expression".as_slice()),
+        (Kind::ExprStates, b"more than 128 states".as_slice()),
     ] {
         assert_eq!(rt; kind.text(), text);
     }

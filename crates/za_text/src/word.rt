@@ -57,7 +57,8 @@ fn word_len(bytes: &[u8]) -> usize
     ensures within { result ≤ length bytes.now }
 {
     for (i, b) in bytes.iter().enumerate() {
-        if is_gap(*b) {
+        // One comparison passes most bytes of a word.
+        if *b <= b' ' && is_gap(*b) {
             return i;
         }
     }
@@ -82,6 +83,13 @@ impl<'a> WordsOf<'a> {
             text: self.text,
             at: self.at,
         }
+    }
+
+    /// The text from where the words have come to: its words are those that are left.
+    pub fn rest(&self) -> &'a [u8]
+        ensures { words_of result.now ≡ left_in self.now }
+    {
+        &self.text[self.at..]
     }
 
     /// The next word, and `None` exactly where no word is left; then nothing changes.

@@ -11,12 +11,15 @@ use Rattle.za_script.specs.declared.answer.Answer.{Answer}
 use Rattle.za_script.specs.declared.answer.Answer.TheVariants.{Accept, Reject, Stuck}
 use Rattle.zielonka.specs.declared.request.Command.{Command}
 use Rattle.zielonka.specs.declared.request.Request.{Request}
-use Rattle.zielonka.specs.declared.request.Request.TheVariants.{Usage as AsksUsage, NotBuilt as AsksMore, Answer as Asks, Generate as AsksJob}
+use Rattle.zielonka.specs.declared.request.Request.TheVariants.{Usage as AsksUsage, Answer as Asks, Generate as AsksJob}
 use Rattle.za_gen.specs.Generated.{generated_text}
 use Rattle.zielonka.specs.Limits.{most_bytes}
-use Rattle.zielonka.specs.Output.{IsOutput, Refused, Read, IsDueFor, Open, Answered, IsAnswered, Ran, RanOnThreads, Checked, Told, usage_text, too_long_text, not_built_text, status_of}
-use Rattle.zielonka.specs.Run.{ReadNothing, ReadNotTooMany, ReadTooMany, NoReadFailed, NoWriteFailed, WroteNothing, WroteAll, WrotePart, IsDue, Usage, NotBuilt, TooLong, Generated, Said, HasRun, Wrote, WriteFault, ReadFault, NoMemory}
-use Rattle.zielonka.specs.Laws.{UsageIsOfTheWords, WordsDecideTheUsage, NotBuiltIsOfTheWords, WordsDecideNotBuilt, WroteJob, WordsDecideTheJob, JobCompletes, AsksForSome, ReadFaultIsOfTheSource, WriteFaultIsOfTheSink, CountsStay, TooLongIsOfTheBytes, TooManyDecide, TooManyComplete, NoMemoryWritesNothing, is_of_bytes, HasAnsweredAll, AnswerIsOfAllBytes, StatusesAreKnown, RunCompletes}
+use Rattle.zielonka.specs.Output.{IsOutput, Refused, Read, IsDueFor, Open, Answered, IsAnswered, Ran, RanOnThreads, Checked, Told, Recorded, Audited, SubjectData, usage_text, too_long_text, status_of, status_of_verdict}
+use Rattle.zielonka.specs.Run.{ReadNothing, ReadNotTooMany, ReadTooMany, NoReadFailed, NoWriteFailed, WroteNothing, WroteAll, WrotePart, IsDue, Usage, TooLong, Generated, Said, HasRun, Wrote, WriteFault, ReadFault, NoMemory}
+use Rattle.zielonka.specs.Laws.{UsageIsOfTheWords, WordsDecideTheUsage, WroteJob, WordsDecideTheJob, JobCompletes, AsksForSome, ReadFaultIsOfTheSource, WriteFaultIsOfTheSink, CountsStay, TooLongIsOfTheBytes, TooManyDecide, TooManyComplete, NoMemoryWritesNothing, is_of_bytes, HasAnsweredAll, AnswerIsOfAllBytes, StatusesAreKnown, RunCompletes}
+use Rattle.za_claim.specs.Claims.{ClaimData}
+use Rattle.za_audit.specs.declared.verdict.Audit as verdict
+use Rattle.za_audit.specs.declared.verdict.Audit.TheVariants.{Yes, BadLetter, BadLabel, NotMaximal, WrongAnswer}
 use Rattle.za_lang.specs.Jobs.{JobData}
 
 -- an answer's status is one of those of bytes
@@ -25,14 +28,23 @@ answer-status Accept = refl
 answer-status Reject = refl
 answer-status Stuck = refl
 
-answered-status : {job : JobData} {command : Command} {status : ℕ} {text : List ℕ} → IsAnswered job command status text → is_of_bytes status ≡ true
-answered-status (Ran cache answer right) = answer-status answer
+verdict-status : (audit : verdict.Audit) → is_of_bytes (status_of_verdict audit) ≡ true
+verdict-status (BadLetter at) = refl
+verdict-status (BadLabel at) = refl
+verdict-status (NotMaximal letter) = refl
+verdict-status (WrongAnswer defined) = refl
+verdict-status (Yes hope) = refl
+
+answered-status : {job : JobData} {claim : Option ClaimData} {command : Command} {status : ℕ} {text : List ℕ} → IsAnswered job claim command status text → is_of_bytes status ≡ true
+answered-status (Ran cache answer hope right goes) = answer-status answer
 answered-status (RanOnThreads cache status text answered) = answered-status answered
 answered-status (Checked cache d minimal) = refl
 answered-status (Told cache d minimal) = refl
+answered-status (Recorded cache answer word right fits) = answer-status answer
+answered-status (Audited about audit is right) = verdict-status audit
 
 -- the status that is due for a job or for bytes is one of those
-due-status : {job : JobData} {command : Command} {status : ℕ} {text : List ℕ} → IsDueFor command job status text → is_of_bytes status ≡ true
+due-status : {subject : SubjectData} {command : Command} {status : ℕ} {text : List ℕ} → IsDueFor command subject status text → is_of_bytes status ≡ true
 due-status (Open k least) = refl
 due-status (Answered status text closed answered) = answered-status answered
 
@@ -45,20 +57,11 @@ other : (status number : ℕ) → is_of_bytes status ≡ true → is_of_bytes nu
 other status number h k e = let both : true ≡ false = sym h ∙ ap is_of_bytes e ∙ k in absurd (cc)
 
 -- the words ask for one thing alone
-usage-not-more : {a : Request} → a ≡ AsksUsage → a ≡ AsksMore → ⊥
-usage-not-more u m = absurd (let both : AsksUsage ≡ AsksMore = sym u ∙ m in cc)
-
 pub usage-not-read : {a : Request} (command : Command) → a ≡ AsksUsage → a ≡ Asks command → ⊥
 usage-not-read command u r = absurd (let both : AsksUsage ≡ Asks command = sym u ∙ r in cc)
 
-pub more-not-read : {a : Request} (command : Command) → a ≡ AsksMore → a ≡ Asks command → ⊥
-more-not-read command m r = absurd (let both : AsksMore ≡ Asks command = sym m ∙ r in cc)
-
 usage-not-job : {a : Request} (number : ℕ) → a ≡ AsksUsage → a ≡ AsksJob number → ⊥
 usage-not-job number u j = absurd (let both : AsksUsage ≡ AsksJob number = sym u ∙ j in cc)
-
-more-not-job : {a : Request} (number : ℕ) → a ≡ AsksMore → a ≡ AsksJob number → ⊥
-more-not-job number m j = absurd (let both : AsksMore ≡ AsksJob number = sym m ∙ j in cc)
 
 pub read-not-job : {a : Request} (command : Command) (number : ℕ) → a ≡ Asks command → a ≡ AsksJob number → ⊥
 read-not-job command number r j = absurd (let both : Asks command ≡ AsksJob number = sym r ∙ j in cc)
@@ -90,7 +93,6 @@ module _ (asked : Request) (old new : Ends) where
   -- status 2, by what is due and by the run
   usage_due : {status : ℕ} {text : List ℕ} → IsDue asked old new status text → status ≡ 2 → (asked ≡ AsksUsage) × ReadNothing old new × (text ≡ usage_text)
   usage_due (Usage none nothing) e = (none, nothing, refl)
-  usage_due (NotBuilt more nothing) e = absurd (omega arith)
   usage_due (TooLong command asks many) e = absurd (omega arith)
   usage_due (Generated number asks nothing) e = absurd (omega arith)
   usage_due (Said command bytes status text asks all output) e = absurd (other status 2 (output-status output) refl e)
@@ -104,7 +106,6 @@ module _ (asked : Request) (old new : Ends) where
   -- words in no form
   words_due : {status : ℕ} {text : List ℕ} → IsDue asked old new status text → asked ≡ AsksUsage → status ≡ 2
   words_due (Usage none nothing) no_form = refl
-  words_due (NotBuilt more nothing) no_form = absurd (usage-not-more no_form more)
   words_due (TooLong command asks many) no_form = absurd (usage-not-read command no_form asks)
   words_due (Generated number asks nothing) no_form = absurd (usage-not-job number no_form asks)
   words_due (Said command bytes status text asks all output) no_form = absurd (usage-not-read command no_form asks)
@@ -115,52 +116,22 @@ module _ (asked : Request) (old new : Ends) where
   words_run (ReadFault command asks few rose nothing) no_form = absurd (usage-not-read command no_form asks)
   words_run (NoMemory few same nothing) no_form = inr (inr refl)
 
-  -- status 10
-  not_built_due : {status : ℕ} {text : List ℕ} → IsDue asked old new status text → status ≡ 10 → (asked ≡ AsksMore) × ReadNothing old new × (text ≡ not_built_text)
-  not_built_due (Usage none nothing) e = absurd (omega arith)
-  not_built_due (NotBuilt more nothing) e = (more, nothing, refl)
-  not_built_due (TooLong command asks many) e = absurd (omega arith)
-  not_built_due (Generated number asks nothing) e = absurd (omega arith)
-  not_built_due (Said command bytes status text asks all output) e = absurd (other status 10 (output-status output) refl e)
-
-  not_built_run : {status : ℕ} → HasRun asked old new status → status ≡ 10 → (asked ≡ AsksMore) × ReadNothing old new × WroteAll old new not_built_text
-  not_built_run (Wrote status text due whole) e = let cause = not_built_due due e in (cause.0, cause.1, subst (WroteAll old new) cause.2 whole)
-  not_built_run (WriteFault status k text due part) e = absurd (omega arith)
-  not_built_run (ReadFault command asks few rose nothing) e = absurd (omega arith)
-  not_built_run (NoMemory few same nothing) e = absurd (omega arith)
-
-  -- words in a form that isn't built
-  more_due : {status : ℕ} {text : List ℕ} → IsDue asked old new status text → asked ≡ AsksMore → status ≡ 10
-  more_due (Usage none nothing) more = absurd (usage-not-more none more)
-  more_due (NotBuilt also nothing) more = refl
-  more_due (TooLong command asks many) more = absurd (more-not-read command more asks)
-  more_due (Generated number asks nothing) more = absurd (more-not-job number more asks)
-  more_due (Said command bytes status text asks all output) more = absurd (more-not-read command more asks)
-
-  more_run : {status : ℕ} → HasRun asked old new status → asked ≡ AsksMore → (status ≡ 10) ⊎ ((status ≡ 7) ⊎ (status ≡ 8))
-  more_run (Wrote status text due whole) more = inl (more_due due more)
-  more_run (WriteFault status k text due part) more = inr (inl refl)
-  more_run (ReadFault command asks few rose nothing) more = absurd (more-not-read command more asks)
-  more_run (NoMemory few same nothing) more = inr (inr refl)
-
-  -- what is due has no status of its own but 2, 9, 10 and those of bytes
-  due_status : {status : ℕ} {text : List ℕ} → IsDue asked old new status text → ((status ≡ 2) ⊎ ((status ≡ 9) ⊎ (status ≡ 10))) ⊎ (is_of_bytes status ≡ true)
+  -- what is due has no status of its own but 2, 9 and those of bytes
+  due_status : {status : ℕ} {text : List ℕ} → IsDue asked old new status text → ((status ≡ 2) ⊎ (status ≡ 9)) ⊎ (is_of_bytes status ≡ true)
   due_status (Usage none nothing) = inl (inl refl)
-  due_status (NotBuilt more nothing) = inl (inr (inr refl))
-  due_status (TooLong command asks many) = inl (inr (inl refl))
+  due_status (TooLong command asks many) = inl (inr refl)
   due_status (Generated number asks nothing) = inr refl
   due_status (Said command bytes status text asks all output) = inr (output-status output)
 
   -- so no other status is due
-  never_due : (status number : ℕ) → ((status ≡ 2) ⊎ ((status ≡ 9) ⊎ (status ≡ 10))) ⊎ (is_of_bytes status ≡ true) → number ≢ 2 → number ≢ 9 → number ≢ 10 → is_of_bytes number ≡ false → status ≡ number → ⊥
-  never_due status number (inl (inl two)) not_two not_nine not_ten k e = absurd (omega arith)
-  never_due status number (inl (inr (inl nine))) not_two not_nine not_ten k e = absurd (omega arith)
-  never_due status number (inl (inr (inr ten))) not_two not_nine not_ten k e = absurd (omega arith)
-  never_due status number (inr h) not_two not_nine not_ten k e = other status number h k e
+  never_due : (status number : ℕ) → ((status ≡ 2) ⊎ (status ≡ 9)) ⊎ (is_of_bytes status ≡ true) → number ≢ 2 → number ≢ 9 → is_of_bytes number ≡ false → status ≡ number → ⊥
+  never_due status number (inl (inl two)) not_two not_nine k e = absurd (omega arith)
+  never_due status number (inl (inr nine)) not_two not_nine k e = absurd (omega arith)
+  never_due status number (inr h) not_two not_nine k e = other status number h k e
 
   -- status 6
   read_fault_run : {status : ℕ} → HasRun asked old new status → status ≡ 6 → AsksForSome asked × ReadNotTooMany old new × Rises old.read_faults new.read_faults × WroteNothing old new
-  read_fault_run (Wrote status text due whole) e = absurd (never_due status 6 (due_status due) (omega arith) (omega arith) (omega arith) refl e)
+  read_fault_run (Wrote status text due whole) e = absurd (never_due status 6 (due_status due) (omega arith) (omega arith) refl e)
   read_fault_run (WriteFault status k text due part) e = absurd (omega arith)
   read_fault_run (ReadFault command asks few rose nothing) e = ((command, asks), few, rose, nothing)
   read_fault_run (NoMemory few same nothing) e = absurd (omega arith)
@@ -168,7 +139,7 @@ module _ (asked : Request) (old new : Ends) where
   -- status 7
   write_fault_run : {status : ℕ} → HasRun asked old new status → status ≡ 7 →
       (due k : ℕ) × (text : List ℕ) × IsDue asked old new due text × WrotePart old new text k
-  write_fault_run (Wrote status text due whole) e = absurd (never_due status 7 (due_status due) (omega arith) (omega arith) (omega arith) refl e)
+  write_fault_run (Wrote status text due whole) e = absurd (never_due status 7 (due_status due) (omega arith) (omega arith) refl e)
   write_fault_run (WriteFault status k text due part) e = (status, k, text, due, part)
   write_fault_run (ReadFault command asks few rose nothing) e = absurd (omega arith)
   write_fault_run (NoMemory few same nothing) e = absurd (omega arith)
@@ -176,7 +147,6 @@ module _ (asked : Request) (old new : Ends) where
   -- counts that stay
   counts_due : {status : ℕ} {text : List ℕ} → IsDue asked old new status text → NoReadFailed old new
   counts_due (Usage none nothing) = nothing.1
-  counts_due (NotBuilt more nothing) = nothing.1
   counts_due (TooLong command asks many) = many.1
   counts_due (Generated number asks nothing) = nothing.1
   counts_due (Said command bytes status text asks all output) = all.3
@@ -189,7 +159,7 @@ module _ (asked : Request) (old new : Ends) where
 
   -- status 8
   no_memory_run : {status : ℕ} → HasRun asked old new status → status ≡ 8 → WroteNothing old new
-  no_memory_run (Wrote status text due whole) e = absurd (never_due status 8 (due_status due) (omega arith) (omega arith) (omega arith) refl e)
+  no_memory_run (Wrote status text due whole) e = absurd (never_due status 8 (due_status due) (omega arith) (omega arith) refl e)
   no_memory_run (WriteFault status k text due part) e = absurd (omega arith)
   no_memory_run (ReadFault command asks few rose nothing) e = absurd (omega arith)
   no_memory_run (NoMemory few same nothing) e = nothing
@@ -197,7 +167,6 @@ module _ (asked : Request) (old new : Ends) where
   -- status 9
   too_long_due : {status : ℕ} {text : List ℕ} → IsDue asked old new status text → status ≡ 9 → AsksForSome asked × ReadTooMany old new × (text ≡ too_long_text)
   too_long_due (Usage none nothing) e = absurd (omega arith)
-  too_long_due (NotBuilt more nothing) e = absurd (omega arith)
   too_long_due (TooLong command asks many) e = ((command, asks), many, refl)
   too_long_due (Generated number asks nothing) e = absurd (omega arith)
   too_long_due (Said command bytes status text asks all output) e = absurd (other status 9 (output-status output) refl e)
@@ -218,7 +187,6 @@ module _ (asked : Request) (old new : Ends) where
 
     many_due : {status : ℕ} {text : List ℕ} → IsDue asked old new status text → ReadTooMany old new → (status ≡ 9) ⊎ ((status ≡ 7) ⊎ (status ≡ 8))
     many_due (Usage none nothing) many = absurd (untouched nothing many)
-    many_due (NotBuilt more nothing) many = absurd (untouched nothing many)
     many_due (TooLong command asks also) many = inl refl
     many_due (Generated number asks nothing) many = absurd (untouched nothing many)
     many_due (Said command taken status text asks all output) many =
@@ -239,7 +207,6 @@ module _ (asked : Request) (old new : Ends) where
     module _ (many : most_bytes < length bytes) (asks : AsksForSome asked) where
       more_than_all : {status : ℕ} {text : List ℕ} → IsDue asked old new status text → (status ≡ 9) × (text ≡ too_long_text)
       more_than_all (Usage none nothing) = absurd (usage-not-read asks.0 none asks.1)
-      more_than_all (NotBuilt more nothing) = absurd (more-not-read asks.0 more asks.1)
       more_than_all (TooLong command also taken) = (refl, refl)
       more_than_all (Generated number also nothing) = absurd (read-not-job asks.0 number asks.1 also)
       more_than_all (Said command taken status text also all output) =
@@ -258,7 +225,6 @@ module _ (asked : Request) (old new : Ends) where
   job_due : (number : ℕ) {status : ℕ} {text : List ℕ} → IsDue asked old new status text → asked ≡ AsksJob number →
       (status ≡ 0) × ReadNothing old new × (text ≡ generated_text number)
   job_due number (Usage none nothing) asks = absurd (usage-not-job number none asks)
-  job_due number (NotBuilt more nothing) asks = absurd (more-not-job number more asks)
   job_due number (TooLong command also many) asks = absurd (read-not-job command number also asks)
   job_due number (Generated other also nothing) asks = (refl, nothing, ap generated_text (one-number other number also asks))
   job_due number (Said command bytes status text also all output) asks = absurd (read-not-job command number also asks)
@@ -292,7 +258,6 @@ module _ (asked : Request) (old new : Ends) where
   all_read_due : {status : ℕ} {text : List ℕ} → IsDue asked old new status text → is_of_bytes status ≡ true → WroteAll old new text →
       HasAnsweredAll asked old new status ⊎ WholeJob status
   all_read_due (Usage none nothing) h whole = absurd (cc)
-  all_read_due (NotBuilt more nothing) h whole = absurd (cc)
   all_read_due (TooLong command asks many) h whole = absurd (cc)
   all_read_due (Generated number asks nothing) h whole = inr (number, refl, asks, (nothing, whole))
   all_read_due (Said command bytes status text asks all output) h whole = inl (command, bytes, text, asks, all, output, whole)
@@ -304,14 +269,13 @@ module _ (asked : Request) (old new : Ends) where
   all_read_run (NoMemory few same nothing) h = absurd (cc)
 
   -- each status is known
-  known_due : (status : ℕ) → ((status ≡ 2) ⊎ ((status ≡ 9) ⊎ (status ≡ 10))) ⊎ (is_of_bytes status ≡ true) →
-      (is_of_bytes status || list_any (λ s. s == status) (2 ∷ 6 ∷ 7 ∷ 8 ∷ 9 ∷ 10 ∷ [])) ≡ true
+  known_due : (status : ℕ) → ((status ≡ 2) ⊎ (status ≡ 9)) ⊎ (is_of_bytes status ≡ true) →
+      (is_of_bytes status || list_any (λ s. s == status) (2 ∷ 6 ∷ 7 ∷ 8 ∷ 9 ∷ [])) ≡ true
   known_due status (inl (inl two)) = rw two refl
-  known_due status (inl (inr (inl nine))) = rw nine refl
-  known_due status (inl (inr (inr ten))) = rw ten refl
-  known_due status (inr h) = or_left (is_of_bytes status) (list_any (λ s. s == status) (2 ∷ 6 ∷ 7 ∷ 8 ∷ 9 ∷ 10 ∷ [])) h
+  known_due status (inl (inr nine)) = rw nine refl
+  known_due status (inr h) = or_left (is_of_bytes status) (list_any (λ s. s == status) (2 ∷ 6 ∷ 7 ∷ 8 ∷ 9 ∷ [])) h
 
-  known_run : {status : ℕ} → HasRun asked old new status → (is_of_bytes status || list_any (λ s. s == status) (2 ∷ 6 ∷ 7 ∷ 8 ∷ 9 ∷ 10 ∷ [])) ≡ true
+  known_run : {status : ℕ} → HasRun asked old new status → (is_of_bytes status || list_any (λ s. s == status) (2 ∷ 6 ∷ 7 ∷ 8 ∷ 9 ∷ [])) ≡ true
   known_run (Wrote status text due whole) = known_due status (due_status due)
   known_run (WriteFault status k text due part) = refl
   known_run (ReadFault command asks few rose nothing) = refl
@@ -321,7 +285,6 @@ module _ (asked : Request) (old new : Ends) where
   module _ (command : Command) (bytes : List ℕ) (asks : asked ≡ Asks command) (told : old.left ≡ Some bytes) (few : length bytes ≤ most_bytes) where
     completes_due : {status : ℕ} {text : List ℕ} → IsDue asked old new status text → IsOutput command bytes status text
     completes_due (Usage none nothing) = absurd (usage-not-read command none asks)
-    completes_due (NotBuilt more nothing) = absurd (more-not-read command more asks)
     completes_due (TooLong also same many) =
         let within : length many.0.0 ≤ length bytes = taken_within bytes many.0.0 new.left (subst (λ left. Consumes left new.left many.0.0) told many.0.1.0) in
         let size : length many.0.0 ≡ most_bytes + 1 = many.0.1.1 in absurd (omega arith)
@@ -343,12 +306,6 @@ usage asked old new run = usage_run asked old new run refl
 
 pub words_decide : WordsDecideTheUsage
 words_decide asked old new status run no_form = words_run asked old new run no_form
-
-pub not_built : NotBuiltIsOfTheWords
-not_built asked old new run = not_built_run asked old new run refl
-
-pub words_decide_not_built : WordsDecideNotBuilt
-words_decide_not_built asked old new status run more = more_run asked old new run more
 
 pub words_decide_job : WordsDecideTheJob
 words_decide_job asked old new status number run asks = job_decides asked old new number (job_run asked old new number run asks)

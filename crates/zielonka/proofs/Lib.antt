@@ -1,10 +1,13 @@
 pub mod RequestLemmas
 pub mod DueLemmas
+pub mod Recording
 pub mod JudgedLemmas
 pub mod RunLemmas
 pub mod Causes
 pub mod OneOutput
+pub mod SomeVerdict
 pub mod SomeOutput
 pub mod Exactly
 pub mod ShownLemmas
 pub mod Headlines
+pub mod AuditedJournals

@@ -23,7 +23,7 @@ plain-by (Some (Run cache)) k e = absurd (cc)
 plain-by (Some (Check cache)) k e = of-one (asks.Check cache) k e
 plain-by (Some (Locals cache)) k e = of-one (asks.Locals cache) k e
 plain-by (Some (Journal cache)) k e = absurd (cc)
-plain-by (Some Audit) k e = absurd (cc)
+plain-by (Some Audit) k e = of-one asks.Audit k e
 plain-by (Some (Gen number)) k e = absurd (cc)
 
 pub plain-alone : (words : List (List ℕ)) (k : Command) → request_in Plain words ≡ Answer k → runs_on_threads k ≡ false
@@ -36,7 +36,7 @@ threaded-by (Some (Solo cache)) k e = absurd (cc)
 threaded-by (Some (Run cache)) k e = of-one (asks.Run cache) k e
 threaded-by (Some (Check cache)) k e = absurd (cc)
 threaded-by (Some (Locals cache)) k e = absurd (cc)
-threaded-by (Some (Journal cache)) k e = absurd (cc)
+threaded-by (Some (Journal cache)) k e = of-one (asks.Journal cache) k e
 threaded-by (Some Audit) k e = absurd (cc)
 threaded-by (Some (Gen number)) k e = absurd (cc)
 

@@ -1,21 +1,21 @@
 -- What is shown, and how a call ends, by what was made and what was said.
 use Rattle.std.proofs.Common.{◌≡◌, ℕ, ◌≤◌, ◌+◌, true, false, List, length, Result, Ok, Err, refl, sym, ap, subst, ◌∙◌, arith}
-use Rattle.std.specs.Prelude.{IfOk}
+use Rattle.std.specs.Prelude.{IfOk, is_some}
 use Rattle.std.specs.Io.KnownBytes.{Consumes, IsAtEnd}
 use Rattle.za_alpha.specs.declared.fault.OutOfMemory.{OutOfMemory}
 use Rattle.za_base.specs.Ends.{Ends}
 use Rattle.za_lang.specs.Answers.{data_of}
-use Rattle.za_lang.specs.Jobs.{JobData, IsJob}
-use Rattle.za_lang.specs.Documents.{job_of}
+use Rattle.za_lang.specs.Jobs.{IsJob}
 use Rattle.za_gen.specs.Generated.{generated_text}
 use Rattle.zielonka.specs.Limits.{most_bytes}
-use Rattle.zielonka.specs.Output.{IsAnswered, Answered, IsOutput, Read}
+use Rattle.zielonka.specs.Output.{IsAnswered, Answered, IsOutput, Read, SubjectData, subject_of}
 use Rattle.zielonka.specs.Run.{ReadNothing, ReadAll, ReadTooMany, HasSaid, IsDue, Said, HasRun, NoMemory}
 use Rattle.zielonka.specs.Shown.{runs_scripts, IsClosed, AreClosedJob, is_of_a_run, IsShown, Finished, Unshown}
-use Rattle.zielonka.specs.Private.Saying.{IsMade, OfRun, OfNone, HasEnded, IsAsked, HasTold}
+use Rattle.zielonka.specs.Private.Saying.{subject_at, IsMade, OfRun, OfNone, HasEnded, IsAsked, HasTold}
 use Rattle.zielonka.specs.declared.due.Output.{Output}
 use Rattle.zielonka.specs.declared.judging.ClosedJob.{ClosedJob}
 use Rattle.zielonka.specs.declared.request.Command.{Command}
+use Rattle.zielonka.specs.declared.request.Command.TheVariants.{Audit}
 use Rattle.zielonka.specs.declared.request.Request.{Request}
 use Rattle.zielonka.specs.declared.request.Request.TheVariants.{Answer as Asks, Generate as AsksJob}
 use Rattle.zielonka.specs.declared.status.Outcome.{Outcome}
@@ -40,15 +40,16 @@ module _ (asked : Request) (old new : Ends) (status : ℕ) where
       let size : length many.0.0 ≡ most_bytes + 1 = many.0.1.1 in omega arith)
 
   -- nor where all bytes were read, and they are no job with a trace-closed language
-  pub none-by-bytes : (bytes : List ℕ) → ReadAll old new bytes → ¬ AreClosedJob bytes → IsShown asked old new status Nothing
-  none-by-bytes bytes all none = Unshown (λ command told-bytes asks runs told few closed h.
+  pub none-by-bytes : (command : Command) (bytes : List ℕ) → asked ≡ Asks command → ReadAll old new bytes → ¬ AreClosedJob command bytes → IsShown asked old new status Nothing
+  none-by-bytes command bytes asks all none = Unshown (λ other told-bytes also runs told few closed h.
       let same : bytes ≡ told-bytes = all_taken told-bytes bytes new.left (subst (λ left. Consumes left new.left bytes) told all.1) all.2 in
-      none (subst AreClosedJob (sym same) closed))
+      let one : other ≡ command = one-command other command also asks in
+      none (subst (λ c. AreClosedJob c bytes) one (subst (AreClosedJob other) (sym same) closed)))
 
   -- what is shown where all bytes were read and what is due was said
-  pub shown-by : (command : Command) (bytes text : List ℕ) (due : ℕ) (shown : Shown) → asked ≡ Asks command → ReadAll old new bytes → AreClosedJob bytes →
+  pub shown-by : (command : Command) (bytes text : List ℕ) (due : ℕ) (shown : Shown) → asked ≡ Asks command → ReadAll old new bytes → AreClosedJob command bytes →
       IsOutput command bytes due text → HasSaid due text old.written new.written old.write_faults new.write_faults status →
-      IsMade command (job_of bytes) text shown → IsShown asked old new status shown
+      IsMade command (subject_of command bytes).job text shown → IsShown asked old new status shown
   shown-by command bytes text due shown asks all are output said (OfRun run by) = Finished command bytes text due run asks all are by output said
   shown-by command bytes text due shown asks all are output said (OfNone none) = Unshown (λ other told-bytes also runs told few closed h.
       let one : other ≡ command = one-command other command also asks in
@@ -86,21 +87,21 @@ module _ (asked : Request) (old mid new : Ends) (command : Command) (it : Closed
   all = (begun.all.0, subst (λ l. Consumes old.left l begun.bytes) (sym left) begun.all.1, subst IsAtEnd (sym left) begun.all.2, faults ∙ begun.all.3)
 
   -- what the bytes are
-  are : AreClosedJob begun.bytes
+  are : AreClosedJob command begun.bytes
   are = record {
     read = begun.is.1;
-    job = subst IsJob begun.is.2 begun.is.0.job;
-    closed = subst IsClosed begun.is.2 begun.is.0.closed;
+    job = subst (λ (s : SubjectData). IsJob s.job) begun.is.2 begun.is.0.job;
+    closed = subst (λ (s : SubjectData). IsClosed s.job) begun.is.2 begun.is.0.closed;
   }
 
-  pub ended-by : (made : Result Output OutOfMemory) → IfOk made (λ output. IsAnswered (data_of it.job) command output.said.status output.said.text.items) →
+  pub ended-by : (made : Result Output OutOfMemory) → IfOk made (λ output. IsAnswered (data_of it.job) it.claim command output.said.status output.said.text.items) →
       IfOk made (λ output. IsMade command (data_of it.job) output.said.text.items output.shown) →
       HasTold made mid.written new.written mid.write_faults new.write_faults outcome → HasEnded asked old new outcome
   ended-by (Ok output) answered made told =
       let text : List ℕ = output.said.text.items in
       let status : ℕ = output.said.status in
       let due : IsOutput command begun.bytes status text = Read status text are.read are.job
-      (Answered status text are.closed (subst (λ (job : JobData). IsAnswered job command status text) begun.is.2 answered)) in
+      (Answered status text are.closed (subst (λ (s : SubjectData). IsAnswered s.job s.claim command status text) begun.is.2 answered)) in
       let said : HasSaid status text old.written new.written old.write_faults new.write_faults outcome.status.0 =
       subst (λ written. HasSaid status text written new.written old.write_faults new.write_faults outcome.status.0) begun.nothing.0
       (subst (λ before. HasSaid status text mid.written new.written before new.write_faults outcome.status.0) begun.nothing.1 told.0) in
@@ -108,11 +109,15 @@ module _ (asked : Request) (old mid new : Ends) (command : Command) (it : Closed
         ran = said-run asked old new status text (Said command begun.bytes status text begun.asks all due) said;
         shown = subst (IsShown asked old new outcome.status.0) (sym told.1)
             (shown-by asked old new outcome.status.0 command begun.bytes text status output.shown begun.asks all are due said
-            (subst (λ (job : JobData). IsMade command job text output.shown) begun.is.2 made));
+            (subst (λ (s : SubjectData). IsMade command s.job text output.shown) begun.is.2 made));
       }
   ended-by (Err none) answered made told =
       ended-silent asked old new outcome 8 told.0 told.1
       (NoMemory (begun.bytes, (all.1, all.0)) all.3 (told.2 ∙ begun.nothing.0, told.3 ∙ begun.nothing.1)) refl
+
+-- `audit` has a claim to answer to
+pub claim-there : (command : Command) (bytes : List ℕ) (it : ClosedJob) → subject_at it ≡ subject_of command bytes → command ≡ Audit → is_some it.claim ≡ true
+claim-there command bytes it same e = ap (λ (s : SubjectData). is_some s.claim) (same ∙ ap (λ c. subject_of c bytes) e)
 
 -- what is shown is told of what is asked alone
 pub shown-moves : (asked other : Request) (old new : Ends) (status : ℕ) (shown : Shown) → asked ≡ other → IsShown asked old new status shown → IsShown other old new status shown

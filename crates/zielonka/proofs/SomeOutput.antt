@@ -1,5 +1,6 @@
 -- For a command and bytes some status and some text are due.
 use Rattle.std.proofs.Common.{◌≡◌, ◌≢◌, ℕ, ◌⊎◌, inl, inr, List, [], length, Option, Some, None, refl, sym, ◌∙◌, arith}
+use Rattle.std.specs.Option.{option_or}
 use Rattle.std.proofs.lemmas.Bool.{cases_Bool, cases_lt}
 use Rattle.std.proofs.Math.ListN.{get_or-eq_default}
 use Rattle.za_alpha.specs.Words.{IsWord, projection}
@@ -15,6 +16,9 @@ use Rattle.za_text.specs.declared.kind.TextFault.{TextFault}
 use Rattle.za_lang.specs.Jobs.{JobData, IsJob}
 use Rattle.za_lang.specs.Documents.{fault_of, job_of}
 use Rattle.za_lang.proofs.Sound.{documents_are_jobs}
+use Rattle.za_claim.specs.Audited.{audited_claim, audited_job, job_bytes}
+use Rattle.za_claim.specs.Claims.{ClaimData}
+use Rattle.za_report.specs.Audits.{audit_text}
 use Rattle.za_script.specs.declared.answer.Answer.{Answer}
 use Rattle.za_script.specs.declared.answer.Answer.TheVariants.{Accept, Reject, Stuck}
 use Rattle.za_script.specs.Scripts.{Weaves}
@@ -24,10 +28,13 @@ use Rattle.za_script.proofs.Confluence.{weave_is_maximal}
 use Rattle.za_script.proofs.Answers.{accept_is_of_the_weave, reject_is_of_the_weave, stuck_is_of_the_weave}
 use Rattle.za_report.specs.Texts.{answer_text, check_text, open_text, refused_text}
 use Rattle.zielonka.specs.declared.request.Command.{Command}
-use Rattle.zielonka.specs.declared.request.Command.TheVariants.{Solo, Run, Check, Locals}
+use Rattle.zielonka.specs.declared.request.Command.TheVariants.{Solo, Run, Check, Locals, Journal, Audit}
 use Rattle.za_report.specs.LocalStates.{locals_text}
-use Rattle.zielonka.specs.Output.{IsAnswered, Ran, RanOnThreads, Checked, Told, IsOutput, Open, Answered, Refused, Read, given, woven_of, status_of}
-use Rattle.zielonka.specs.Laws.{SomethingIsDue}
+use Rattle.zielonka.specs.Journals.{journal_text}
+use Rattle.zielonka.specs.Output.{IsAnswered, Ran, RanOnThreads, Checked, Told, Recorded, Audited, IsDueFor, IsOutput, Open, Answered, Refused, Read, subject_of, fault_for, given, woven_of, status_of, status_of_verdict}
+use Rattle.zielonka.specs.Shown.{IsClosed}
+use Rattle.zielonka.proofs.SomeVerdict.{hope-exists, verdict-exists}
+use Rattle.zielonka.specs.Laws.{SomethingIsDue, JournalEndsAsOne}
 
 module _ (job : JobData) (fine : IsJob job) where
   abbrev n : ℕ
@@ -69,30 +76,118 @@ module _ (job : JobData) (fine : IsJob job) where
         ]
       ]
 
-  -- and each command is answered
-  answered_exists : IsTraceClosed loc (automaton_of (given job)) → (command : Command) → (status : ℕ) × (text : List ℕ) × IsAnswered job command status text
-  answered_exists closed (Solo cache) =
-      let a = answer_exists closed in (status_of a.0, answer_text job.naming.names job.lang.alphabet job.scripts (woven_of job) a.0 cache, Ran cache a.0 a.1)
-  answered_exists closed (Run cache) =
-      let a = answer_exists closed in
-      let text : List ℕ = answer_text job.naming.names job.lang.alphabet job.scripts (woven_of job) a.0 cache in (status_of a.0, text, RanOnThreads cache (status_of a.0) text (Ran cache a.0 a.1))
-  answered_exists closed (Check cache) =
-      let d = minimal_dfas_exist (given job) (completion_complete job.lang fine.lang) in (0, check_text job.lang.alphabet d.0.states cache, Checked cache d.0 d.1)
-  answered_exists closed (Locals cache) =
-      let d = minimal_dfas_exist (given job) (completion_complete job.lang fine.lang) in (0, locals_text d.0 (woven_of job), Told cache d.0 d.1)
+  -- so each command is answered
+  module _ (claim : Option ClaimData) (closed : IsTraceClosed loc (automaton_of (given job))) where
+    abbrev HasAnswer : Command → Type 0
+    HasAnswer command = (status : ℕ) × (text : List ℕ) × IsAnswered job claim command status text
 
--- a text is refused or is a job, and the language of a job is closed or has a least break
-by_fault : (command : Command) (bytes : List ℕ) (o : Option TextFault) → fault_of bytes ≡ o → (status : ℕ) × (text : List ℕ) × IsOutput command bytes status text
+    solo_exists : (cache : ℕ) → HasAnswer (Solo cache)
+    solo_exists cache =
+        let a = answer_exists closed in
+        let h = hope-exists job fine closed a.0 in
+        (status_of a.0, answer_text job.naming.names job.lang.alphabet job.scripts (woven_of job) a.0 h.0 cache, Ran cache a.0 h.0 a.1 h.1)
+
+    run_exists : (cache : ℕ) → HasAnswer (Run cache)
+    run_exists cache = let a = solo_exists cache in (a.0, a.1, RanOnThreads cache a.0 a.1 a.2)
+
+    check_exists : (cache : ℕ) → HasAnswer (Check cache)
+    check_exists cache =
+        let d = minimal_dfas_exist (given job) (completion_complete job.lang fine.lang) in (0, check_text job.lang.alphabet d.0.states cache, Checked cache d.0 d.1)
+
+    locals_exist : (cache : ℕ) → HasAnswer (Locals cache)
+    locals_exist cache =
+        let d = minimal_dfas_exist (given job) (completion_complete job.lang fine.lang) in (0, locals_text d.0 (woven_of job), Told cache d.0 d.1)
+
+    journal_exists : (cache : ℕ) → HasAnswer (Journal cache)
+    journal_exists cache =
+        let a = answer_exists closed in
+        let fits = weave_is_maximal loc m n (script_of job.scripts) fine.lang.distributed.located in
+        (status_of a.0, journal_text job.lang.alphabet (woven_of job) a.0, Recorded cache a.0 (woven_of job) a.1 fits)
+
+    verdict_is_said : (about : ClaimData) → claim ≡ Some about → HasAnswer Audit
+    verdict_is_said about is =
+        let a = answer_exists closed in
+        let v = verdict-exists job fine closed about a.0 a.1 in (status_of_verdict v.0, audit_text job.lang.alphabet v.0, Audited about v.0 is v.1)
+
+-- of whatever is read
+answered_exists : (command : Command) (bytes : List ℕ) → IsJob (subject_of command bytes).job → IsClosed (subject_of command bytes).job →
+    (status : ℕ) × (text : List ℕ) × IsAnswered (subject_of command bytes).job (subject_of command bytes).claim command status text
+answered_exists (Solo cache) bytes fine closed = solo_exists (job_of bytes) fine None closed cache
+answered_exists (Run cache) bytes fine closed = run_exists (job_of bytes) fine None closed cache
+answered_exists (Check cache) bytes fine closed = check_exists (job_of bytes) fine None closed cache
+answered_exists (Locals cache) bytes fine closed = locals_exist (job_of bytes) fine None closed cache
+answered_exists (Journal cache) bytes fine closed = journal_exists (job_of bytes) fine None closed cache
+answered_exists Audit bytes fine closed = verdict_is_said (audited_job bytes) fine (Some (audited_claim bytes)) closed (audited_claim bytes) refl
+
+none_first : (a b : Option TextFault) → option_or a b ≡ None → a ≡ None
+none_first None b e = refl
+none_first (Some fault) b e = e
+
+-- what isn't refused says a job
+says_a_job : (command : Command) (bytes : List ℕ) → fault_for command bytes ≡ None → IsJob (subject_of command bytes).job
+says_a_job (Solo cache) bytes e = documents_are_jobs bytes e
+says_a_job (Run cache) bytes e = documents_are_jobs bytes e
+says_a_job (Check cache) bytes e = documents_are_jobs bytes e
+says_a_job (Locals cache) bytes e = documents_are_jobs bytes e
+says_a_job (Journal cache) bytes e = documents_are_jobs bytes e
+says_a_job Audit bytes e = documents_are_jobs (job_bytes bytes) (none_first (fault_of (job_bytes bytes)) _ e)
+
+-- a text is refused or says a job, and the language of a job is closed or has a least break
+by_fault : (command : Command) (bytes : List ℕ) (o : Option TextFault) → fault_for command bytes ≡ o → (status : ℕ) × (text : List ℕ) × IsOutput command bytes status text
 by_fault command bytes (Some fault) e = (4, refused_text fault, Refused fault e)
 by_fault command bytes None e =
-    let job : JobData = job_of bytes in
-    let fine : IsJob job = documents_are_jobs bytes e in
+    let job : JobData = (subject_of command bytes).job in
+    let fine : IsJob job = says_a_job command bytes e in
     elim (closed_or_broken (given job) (completion_complete job.lang fine.lang)) [
-      | inl closed ↦ let r = answered_exists job fine closed command in (r.0, r.1, Read r.0 r.1 e fine (Answered r.0 r.1 closed r.2))
+      | inl closed ↦ let r = answered_exists command bytes fine closed in (r.0, r.1, Read r.0 r.1 e fine (Answered r.0 r.1 closed r.2))
       | inr k ↦
           let text : List ℕ = open_text job.lang.alphabet (left_word k.0) (right_word k.0) in
           (5, text, Read 5 text e fine (Open k.0 k.1))
     ]
 
 pub something_is_due : SomethingIsDue
-something_is_due command bytes = by_fault command bytes (fault_of bytes) refl
+something_is_due command bytes = by_fault command bytes (fault_for command bytes) refl
+
+-- a journal ends as its answer does
+module _ (cache : ℕ) (bytes : List ℕ) where
+  abbrev EndsWith : Command → ℕ → Type 0
+  EndsWith command status = (text : List ℕ) × IsOutput command bytes status text
+
+  answered_as_one : {status : ℕ} {text : List ℕ} → IsJob (job_of bytes) → IsClosed (job_of bytes) → IsAnswered (job_of bytes) None (Journal cache) status text →
+      (said : List ℕ) × IsAnswered (job_of bytes) None (Solo cache) status said
+  answered_as_one fine closed (Recorded same answer word right fits) =
+      let job = job_of bytes in
+      let h = hope-exists job fine closed answer in
+      (answer_text job.naming.names job.lang.alphabet job.scripts (woven_of job) answer h.0 cache, Ran cache answer h.0 right h.1)
+
+  due_as_one : {status : ℕ} {text : List ℕ} → fault_of bytes ≡ None → IsJob (job_of bytes) → IsDueFor (Journal cache) (subject_of (Journal cache) bytes) status text →
+      EndsWith (Solo cache) status
+  due_as_one right fine (Open k least) =
+      let said = open_text (job_of bytes).lang.alphabet (left_word k) (right_word k) in (said, Read 5 said right fine (Open k least))
+  due_as_one right fine (Answered status text closed answered) =
+      let a = answered_as_one fine closed answered in (a.0, Read status a.0 right fine (Answered status a.0 closed a.1))
+
+  as_one : {status : ℕ} {text : List ℕ} → IsOutput (Journal cache) bytes status text → EndsWith (Solo cache) status
+  as_one (Refused fault wrong) = (refused_text fault, Refused fault wrong)
+  as_one (Read status text right fine due) = due_as_one right fine due
+
+  answered_recorded : {status : ℕ} {text : List ℕ} → IsJob (job_of bytes) → IsAnswered (job_of bytes) None (Solo cache) status text →
+      (said : List ℕ) × IsAnswered (job_of bytes) None (Journal cache) status said
+  answered_recorded fine (Ran same answer hope right goes) =
+      let job = job_of bytes in
+      let fits = weave_is_maximal (loc_of job.lang.alphabet) (length job.lang.alphabet.letters) job.lang.alphabet.processes (script_of job.scripts) fine.lang.distributed.located in
+      (journal_text job.lang.alphabet (woven_of job) answer, Recorded cache answer (woven_of job) right fits)
+
+  due_recorded : {status : ℕ} {text : List ℕ} → fault_of bytes ≡ None → IsJob (job_of bytes) → IsDueFor (Solo cache) (subject_of (Solo cache) bytes) status text →
+      EndsWith (Journal cache) status
+  due_recorded right fine (Open k least) =
+      let said = open_text (job_of bytes).lang.alphabet (left_word k) (right_word k) in (said, Read 5 said right fine (Open k least))
+  due_recorded right fine (Answered status text closed answered) =
+      let a = answered_recorded fine answered in (a.0, Read status a.0 right fine (Answered status a.0 closed a.1))
+
+  recorded : {status : ℕ} {text : List ℕ} → IsOutput (Solo cache) bytes status text → EndsWith (Journal cache) status
+  recorded (Refused fault wrong) = (refused_text fault, Refused fault wrong)
+  recorded (Read status text right fine due) = due_recorded right fine due
+
+pub journal_ends_as_one : JournalEndsAsOne
+journal_ends_as_one cache bytes status = (λ h. as_one cache bytes h.1, λ h. recorded cache bytes h.1)

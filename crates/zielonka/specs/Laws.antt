@@ -1,6 +1,6 @@
 -- The causes of each status.
 use Rattle.std.specs.Prelude.{◌≡◌, ◌≢◌, ℕ, ◌<◌, ◌≤◌, ◌==◌, ◌||◌, ◌⊎◌, ◌↔◌}
-use Rattle.std.specs.Prelude.{Bool, IsTrue, List, [], ◌∷◌, length, Some, None}
+use Rattle.std.specs.Prelude.{Bool, true, false, IsTrue, IsFalse, List, [], ◌∷◌, length, Some, None}
 use Rattle.std.specs.List.{list_any}
 use Rattle.za_alpha.specs.Alphabet.{loc_of}
 use Rattle.za_base.specs.Fault.{Rises}
@@ -9,15 +9,14 @@ use Rattle.za_closure.specs.Breaks.{Break, IsBreak}
 use Rattle.za_dfa.specs.Tables.{automaton_of}
 use Rattle.za_text.specs.declared.kind.TextFault.{TextFault}
 use Rattle.za_lang.specs.Jobs.{IsJob}
-use Rattle.za_lang.specs.Documents.{fault_of, job_of}
 use Rattle.za_gen.specs.Generated.{generated_text}
 use Rattle.zielonka.specs.declared.request.Command.{Command}
-use Rattle.zielonka.specs.declared.request.Command.TheVariants.{Solo, Run}
+use Rattle.zielonka.specs.declared.request.Command.TheVariants.{Solo, Run, Journal}
 use Rattle.zielonka.specs.declared.request.Request.{Request}
-use Rattle.zielonka.specs.declared.request.Request.TheVariants.{Usage as AsksUsage, NotBuilt as AsksMore}
+use Rattle.zielonka.specs.declared.request.Request.TheVariants.{Usage as AsksUsage}
 use Rattle.zielonka.specs.declared.request.Request.TheVariants.{Answer as Asks, Generate as AsksJob}
 use Rattle.zielonka.specs.Limits.{most_bytes}
-use Rattle.zielonka.specs.Output.{IsOutput, given, usage_text, too_long_text, not_built_text}
+use Rattle.zielonka.specs.Output.{IsOutput, fault_for, subject_of, given, usage_text, too_long_text}
 use Rattle.zielonka.specs.Run.{NoReadFailed, NoWriteFailed}
 use Rattle.zielonka.specs.Run.{ReadNothing, ReadAll, ReadNotTooMany, ReadTooMany, WroteNothing, WroteAll, WrotePart}
 use Rattle.zielonka.specs.Run.{IsDue, HasRun}
@@ -35,18 +34,6 @@ abbrev pub WordsDecideTheUsage : Type 0
 WordsDecideTheUsage =
     (asked : Request) (old new : Ends) (status : ℕ) → HasRun asked old new status → asked ≡ AsksUsage →
     (status ≡ 2) ⊎ ((status ≡ 7) ⊎ (status ≡ 8))
-
--- status 10 comes only of words in a form that isn't built: nothing was read, and its line was written whole
-abbrev pub NotBuiltIsOfTheWords : Type 0
-NotBuiltIsOfTheWords =
-    (asked : Request) (old new : Ends) → HasRun asked old new 10 →
-    (asked ≡ AsksMore) × ReadNothing old new × WroteAll old new not_built_text
-
--- and such words have no status but 10, 7 and 8
-abbrev pub WordsDecideNotBuilt : Type 0
-WordsDecideNotBuilt =
-    (asked : Request) (old new : Ends) (status : ℕ) → HasRun asked old new status → asked ≡ AsksMore →
-    (status ≡ 10) ⊎ ((status ≡ 7) ⊎ (status ≡ 8))
 
 -- the generated job was written whole, and nothing was read
 abbrev pub WroteJob : Ends → Ends → ℕ → Type 0
@@ -133,7 +120,7 @@ AnswerIsOfAllBytes =
 abbrev pub StatusesAreKnown : Type 0
 StatusesAreKnown =
     (asked : Request) (old new : Ends) (status : ℕ) → HasRun asked old new status →
-    IsTrue (is_of_bytes status || list_any (λ s. s == status) (2 ∷ 6 ∷ 7 ∷ 8 ∷ 9 ∷ 10 ∷ []))
+    IsTrue (is_of_bytes status || list_any (λ s. s == status) (2 ∷ 6 ∷ 7 ∷ 8 ∷ 9 ∷ []))
 
 -- where the source tells its bytes and has not too many, and neither count of faults rose, a command that reads them
 -- ends with want of memory or says what is due for all bytes
@@ -146,11 +133,16 @@ RunCompletes =
 
 -- ---- what is due
 
--- for a command and bytes one status and one text are due
+-- whether the text of a command tells in which order the letters were fired
+abbrev pub tells_the_order : Command → Bool
+tells_the_order (Journal cache) = true
+tells_the_order _ = false
+
+-- for a command and bytes one status is due, and one text, unless it tells the order
 abbrev pub OutputIsOne : Type 0
 OutputIsOne =
     (command : Command) (bytes : List ℕ) (s t : ℕ) (x y : List ℕ) → IsOutput command bytes s x →
-    IsOutput command bytes t y → (s ≡ t) × (x ≡ y)
+    IsOutput command bytes t y → (s ≡ t) × (IsFalse (tells_the_order command) → x ≡ y)
 
 -- and some status and some text are
 abbrev pub SomethingIsDue : Type 0
@@ -163,21 +155,28 @@ ThreadsAnswerAsOne =
     (cache : ℕ) (bytes : List ℕ) (status : ℕ) (text : List ℕ) →
     (IsOutput (Run cache) bytes status text ↔ IsOutput (Solo cache) bytes status text)
 
--- the status that is due is 4 exactly where the bytes are no document: some line of theirs is wrong
+-- and a journal ends as its answer does: a status is due for it exactly where it is due on one thread
+abbrev pub JournalEndsAsOne : Type 0
+JournalEndsAsOne =
+    (cache : ℕ) (bytes : List ℕ) (status : ℕ) →
+    (((text : List ℕ) × IsOutput (Journal cache) bytes status text)
+    ↔ ((text : List ℕ) × IsOutput (Solo cache) bytes status text))
+
+-- the status that is due is 4 exactly where the bytes aren't what the command reads: some line of theirs is wrong
 abbrev pub RefusedExactly : Type 0
 RefusedExactly =
     (command : Command) (bytes : List ℕ) (status : ℕ) (text : List ℕ) → IsOutput command bytes status text →
-    ((status ≡ 4) ↔ ((fault : TextFault) × (fault_of bytes ≡ Some fault)))
+    ((status ≡ 4) ↔ ((fault : TextFault) × (fault_for command bytes ≡ Some fault)))
 
--- the bytes are a job whose language has a break
-abbrev pub HasBrokenLanguage : List ℕ → Type 0
-HasBrokenLanguage bytes =
-    let job = job_of bytes in
-    (fault_of bytes ≡ None) × IsJob job
+-- the bytes are what the command reads, and the language of their job has a break
+abbrev pub HasBrokenLanguage : Command → List ℕ → Type 0
+HasBrokenLanguage command bytes =
+    let job = (subject_of command bytes).job in
+    (fault_for command bytes ≡ None) × IsJob job
     × ((k : Break) × IsBreak (loc_of job.lang.alphabet) (automaton_of (given job)) k)
 
--- it is 5 exactly where they are a job whose language has a break: two equivalent words of which one is accepted
+-- it is 5 exactly where that language has a break: two equivalent words of which one is accepted
 abbrev pub OpenExactly : Type 0
 OpenExactly =
     (command : Command) (bytes : List ℕ) (status : ℕ) (text : List ℕ) → IsOutput command bytes status text →
-    ((status ≡ 5) ↔ HasBrokenLanguage bytes)
+    ((status ≡ 5) ↔ HasBrokenLanguage command bytes)

@@ -1,8 +1,10 @@
 pub mod Limits
 pub mod Requests
+pub mod Journals
 pub mod Output
 pub mod Run
 pub mod Shown
 pub mod Laws
 pub mod Headline
+pub mod AuditedYes
 pub mod Private

@@ -8,7 +8,7 @@ use Rattle.zielonka.specs.declared.request.Call.{Call}
 use Rattle.zielonka.specs.declared.request.Call.TheVariants.{Plain, Threaded, Top}
 use Rattle.zielonka.specs.declared.request.Command.TheVariants as command
 use Rattle.zielonka.specs.declared.request.Request.{Request}
-use Rattle.zielonka.specs.declared.request.Request.TheVariants.{Usage, NotBuilt, Answer, Generate}
+use Rattle.zielonka.specs.declared.request.Request.TheVariants.{Usage, Answer, Generate}
 
 -- whether a plan is answered on threads
 abbrev pub is_for_threads : Plan → Bool
@@ -32,8 +32,8 @@ request_by (Solo cache) = Answer (command.Solo cache)
 request_by (Run cache) = Answer (command.Run cache)
 request_by (Check cache) = Answer (command.Check cache)
 request_by (Locals cache) = Answer (command.Locals cache)
-request_by (Journal cache) = NotBuilt
-request_by Audit = NotBuilt
+request_by (Journal cache) = Answer (command.Journal cache)
+request_by Audit = Answer command.Audit
 request_by (Gen number) = Generate number
 
 -- a plan whose form the called function doesn't have asks for the usage line

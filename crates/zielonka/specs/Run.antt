@@ -8,9 +8,9 @@ use Rattle.za_gen.specs.Generated.{generated_text}
 use Rattle.zielonka.specs.Limits.{most_bytes}
 use Rattle.zielonka.specs.declared.request.Command.{Command}
 use Rattle.zielonka.specs.declared.request.Request.{Request}
-use Rattle.zielonka.specs.declared.request.Request.TheVariants.{Usage as AsksUsage, NotBuilt as AsksMore}
+use Rattle.zielonka.specs.declared.request.Request.TheVariants.{Usage as AsksUsage}
 use Rattle.zielonka.specs.declared.request.Request.TheVariants.{Answer as Asks, Generate as AsksJob}
-use Rattle.zielonka.specs.Output.{IsOutput, usage_text, too_long_text, not_built_text}
+use Rattle.zielonka.specs.Output.{IsOutput, usage_text, too_long_text}
 
 -- no read failed, and no write: the count of faults is what it was
 abbrev pub NoReadFailed : Ends → Ends → Type 0
@@ -59,7 +59,6 @@ pub data HasSaid (status : ℕ) (text : List ℕ) (written now : Option (List �
 -- the status and the text that are due for what is asked
 pub data IsDue (asked : Request) (old new : Ends) : ℕ → List ℕ → Type 0 where
   Usage : asked ≡ AsksUsage → ReadNothing old new → IsDue asked old new 2 usage_text
-  NotBuilt : asked ≡ AsksMore → ReadNothing old new → IsDue asked old new 10 not_built_text
   TooLong : (command : Command) → asked ≡ Asks command → ReadTooMany old new → IsDue asked old new 9 too_long_text
   Generated : (number : ℕ) → asked ≡ AsksJob number → ReadNothing old new →
       IsDue asked old new 0 (generated_text number)

@@ -1,5 +1,6 @@
 -- The finished run that is handed back: the one from which the text was made.
-use Rattle.std.specs.Prelude.{◌≡◌, ℕ, ◌≤◌, ◌==◌, List, [], ◌∷◌, Bool, true, false, IsTrue, length, Some, None}
+use Rattle.std.specs.Prelude.{◌≡◌, ℕ, ◌≤◌, ◌==◌, List, [], ◌∷◌, Bool, true, false, IsTrue, length}
+use Rattle.std.specs.Prelude.{Option, Some, None}
 use Rattle.std.specs.List.{list_any}
 use Rattle.za_alpha.specs.Words.{AreEquivalent}
 use Rattle.za_alpha.specs.Alphabet.{loc_of}
@@ -7,8 +8,9 @@ use Rattle.za_base.specs.Ends.{Ends}
 use Rattle.za_dfa.specs.Automata.{IsTraceClosed}
 use Rattle.za_dfa.specs.Tables.{automaton_of}
 use Rattle.za_lang.specs.Jobs.{JobData, IsJob}
-use Rattle.za_lang.specs.Documents.{fault_of, job_of}
 use Rattle.za_min.specs.Minimal.{IsMinimalOf}
+use Rattle.za_min.specs.declared.live.Hope.{Hope}
+use Rattle.za_hope.specs.Hopes.{IsHopeFor}
 use Rattle.za_report.specs.LocalStates.{locals_text}
 use Rattle.za_report.specs.Texts.{answer_text}
 use Rattle.za_script.specs.Answer.{IsAnswer}
@@ -16,10 +18,11 @@ use Rattle.za_script.specs.ScriptLists.{script_of}
 use Rattle.za_script.specs.Woven.{weave_of}
 use Rattle.za_table.specs.Ends.{EndedState, IsEnded, answer_in}
 use Rattle.zielonka.specs.Limits.{most_bytes}
-use Rattle.zielonka.specs.Output.{IsOutput, given, woven_of}
+use Rattle.zielonka.specs.Journals.{journal_text}
+use Rattle.zielonka.specs.Output.{IsOutput, fault_for, subject_of, given, woven_of}
 use Rattle.zielonka.specs.Run.{HasSaid, ReadAll}
 use Rattle.zielonka.specs.declared.request.Command.{Command}
-use Rattle.zielonka.specs.declared.request.Command.TheVariants.{Solo, Run, Check, Locals}
+use Rattle.zielonka.specs.declared.request.Command.TheVariants.{Solo, Run, Check, Locals, Journal, Audit}
 use Rattle.zielonka.specs.declared.request.Request.{Request}
 use Rattle.zielonka.specs.declared.request.Request.TheVariants.{Answer as Asks}
 use Rattle.zielonka.specs.declared.status.Shown.{Shown}
@@ -31,6 +34,8 @@ runs_scripts (Solo cache) = true
 runs_scripts (Run cache) = true
 runs_scripts (Check cache) = false
 runs_scripts (Locals cache) = true
+runs_scripts (Journal cache) = true
+runs_scripts Audit = false
 
 -- whether it runs them on threads
 abbrev pub runs_on_threads : Command → Bool
@@ -38,16 +43,18 @@ runs_on_threads (Solo cache) = false
 runs_on_threads (Run cache) = true
 runs_on_threads (Check cache) = false
 runs_on_threads (Locals cache) = false
+runs_on_threads (Journal cache) = true
+runs_on_threads Audit = false
 
 -- the language of the job is trace-closed
 abbrev pub IsClosed : JobData → Type 0
 IsClosed job = IsTraceClosed (loc_of job.lang.alphabet) (automaton_of (given job))
 
--- the bytes are a job whose language is trace-closed
-pub record AreClosedJob (bytes : List ℕ) : Type 0 where
-  pub read : fault_of bytes ≡ None
-  pub job : IsJob (job_of bytes)
-  pub closed : IsClosed (job_of bytes)
+-- the bytes are what the command reads, and the language of their job is trace-closed
+pub record AreClosedJob (command : Command) (bytes : List ℕ) : Type 0 where
+  pub read : fault_for command bytes ≡ None
+  pub job : IsJob (subject_of command bytes).job
+  pub closed : IsClosed (subject_of command bytes).job
 
 -- the run is one of the job: on the minimal automaton of its language and on its scripts; it is over, and its answer is
 -- that of the automaton as given to the scripts, over all words that weave them
@@ -57,20 +64,38 @@ pub record IsRunOf (job : JobData) (run : EndedState) : Type 0 where
   pub over : IsEnded run
   pub answer : IsAnswer (loc_of job.lang.alphabet) (automaton_of (given job)) (script_of job.scripts) (answer_in run)
 
--- the text of the answer of a finished run, with the names of its processes. Its word is the weave, which says in
--- which order its letters are told
-abbrev pub answer_text_of : List (List ℕ) → EndedState → ℕ → List ℕ
-answer_text_of names run cache =
-    let given = run.given in
-    answer_text names given.dfa.alphabet given.scripts (weave_of given.dfa.alphabet given.scripts) (answer_in run) cache
+-- the hope that goes with the answer of a finished run: that of its automaton and its scripts
+abbrev pub IsHopeIn : EndedState → Option Hope → Type 0
+IsHopeIn run hope =
+    let on = run.given in
+    IsHopeFor (loc_of on.dfa.alphabet) on.dfa.alphabet.processes (automaton_of on.dfa) (script_of on.scripts)
+    (answer_in run) hope
 
--- the text is what the command makes of the run: of its answer, with the names of the processes, or of its local
--- states, which are those after its journal
+-- the text of the answer of a finished run and of a hope, with the names of its processes. Its word is the weave,
+-- which says in which order its letters are told
+abbrev pub answer_text_of : List (List ℕ) → EndedState → Option Hope → ℕ → List ℕ
+answer_text_of names run hope cache =
+    let on = run.given in
+    answer_text names on.dfa.alphabet on.scripts (weave_of on.dfa.alphabet on.scripts) (answer_in run) hope cache
+
+-- the text tells the answer of the run, and the hope that goes with it
+abbrev pub TellsAnswer : List (List ℕ) → EndedState → ℕ → List ℕ → Type 0
+TellsAnswer names run cache text =
+    (hope : Option Hope) × IsHopeIn run hope × (text ≡ answer_text_of names run hope cache)
+
+-- its journal: its word with the labels, and its answer
+abbrev pub journal_text_of : EndedState → List ℕ
+journal_text_of run = journal_text run.given.dfa.alphabet run.state.journal (answer_in run)
+
+-- the text is what the command makes of the run: of its answer and hope, with the names of the processes, of its local
+-- states, which are those after its word, or its journal
 abbrev pub IsMadeOf : Command → List (List ℕ) → EndedState → List ℕ → Type 0
-IsMadeOf (Solo cache) names run text = text ≡ answer_text_of names run cache
-IsMadeOf (Run cache) names run text = text ≡ answer_text_of names run cache
+IsMadeOf (Solo cache) names run text = TellsAnswer names run cache text
+IsMadeOf (Run cache) names run text = TellsAnswer names run cache text
 IsMadeOf (Check cache) names run text = ⊥
 IsMadeOf (Locals cache) names run text = text ≡ locals_text run.given.dfa run.state.journal
+IsMadeOf (Journal cache) names run text = text ≡ journal_text_of run
+IsMadeOf Audit names run text = ⊥
 
 -- in which order the letters of a job were fired: on one thread in that of the woven word, on threads in some order
 -- that is equivalent to it
@@ -79,6 +104,8 @@ IsJournalOf (Solo cache) job journal = journal ≡ woven_of job
 IsJournalOf (Run cache) job journal = AreEquivalent (loc_of job.lang.alphabet) journal (woven_of job)
 IsJournalOf (Check cache) job journal = ⊥
 IsJournalOf (Locals cache) job journal = journal ≡ woven_of job
+IsJournalOf (Journal cache) job journal = AreEquivalent (loc_of job.lang.alphabet) journal (woven_of job)
+IsJournalOf Audit job journal = ⊥
 
 -- the text of the command is made of the run, which is one of the job
 pub record IsMadeBy (command : Command) (job : JobData) (text : List ℕ) (run : EndedState) : Type 0 where
@@ -92,6 +119,8 @@ shown_as (Solo cache) run = ShowsSolo run
 shown_as (Run cache) run = ShowsHall run
 shown_as (Check cache) run = Nothing
 shown_as (Locals cache) run = ShowsSolo run
+shown_as (Journal cache) run = ShowsHall run
+shown_as Audit run = Nothing
 
 -- whether a status may come of a finished run
 abbrev pub is_of_a_run : ℕ → Bool
@@ -102,12 +131,12 @@ pub data IsShown (asked : Request) (old new : Ends) (status : ℕ) : Shown → T
   -- all bytes were read, they are a job whose language is trace-closed, and the text that is due was made of the
   -- finished run; it was written whole, with the status that is due, or in part, with 7
   Finished : (command : Command) (bytes text : List ℕ) (due : ℕ) (run : EndedState) → asked ≡ Asks command →
-      ReadAll old new bytes → AreClosedJob bytes → IsMadeBy command (job_of bytes) text run →
-      IsOutput command bytes due text →
+      ReadAll old new bytes → AreClosedJob command bytes →
+      IsMadeBy command (subject_of command bytes).job text run → IsOutput command bytes due text →
       HasSaid due text old.written new.written old.write_faults new.write_faults status →
       IsShown asked old new status (shown_as command run)
   -- where a command that runs scripts is asked for, and the source tells its bytes, which are a job whose language is
   -- trace-closed, not too long, the status is another one
   Unshown : ((command : Command) (bytes : List ℕ) → asked ≡ Asks command → IsTrue (runs_scripts command) →
-      old.left ≡ Some bytes → length bytes ≤ most_bytes → AreClosedJob bytes → IsTrue (is_of_a_run status) → ⊥) →
-      IsShown asked old new status Nothing
+      old.left ≡ Some bytes → length bytes ≤ most_bytes → AreClosedJob command bytes →
+      IsTrue (is_of_a_run status) → ⊥) → IsShown asked old new status Nothing

@@ -1,10 +1,14 @@
 //! What is due for a job whose language is trace-closed.
 
-ghost use Rattle.std.specs.Prelude.{◌≡◌, IfOk, true, false};
+ghost use Rattle.std.specs.Prelude.{◌≡◌, IfOk, Option, Some, is_some, true, false};
+ghost use Rattle.za_claim.specs.Claims.{ClaimData};
 ghost use Rattle.za_lang.specs.Answers.{data_of};
 ghost use Rattle.za_lang.specs.Jobs.{IsJob};
-ghost use Rattle.zielonka.specs.Output.{IsAnswered, status_of, woven_of};
-ghost use Rattle.zielonka.specs.Shown.{IsRunOf, answer_text_of, runs_on_threads};
+ghost use Rattle.za_hope.specs.Jobs.{HasHope};
+ghost use Rattle.za_table.specs.Ends.{answer_in};
+ghost use Rattle.zielonka.specs.Journals.{fired_events};
+ghost use Rattle.zielonka.specs.Output.{IsAnswered, status_of, status_of_verdict, woven_of};
+ghost use Rattle.zielonka.specs.Shown.{IsRunOf, TellsAnswer, journal_text_of, runs_on_threads};
 ghost use Rattle.zielonka.specs.Private.Saying.{IsCompiled, IsMade};
 
 use crate::judging::{ClosedJob, Said};
@@ -14,11 +18,15 @@ use std::alloc::Global;
 use std::sync::Wait;
 use std::thread::Threads;
 use za_alpha::OutOfMemory;
+use za_audit::{Audit, audit};
+use za_claim::{Claim, Event, print_claim};
 use za_hall::HallEnded;
+use za_hope::hope_of;
 use za_lang::Job;
-use za_report::{answer_text, check_text, locals_text};
+use za_min::Hope;
+use za_report::{answer_text, audit_text, check_text, locals_text};
 use za_runner::Gate;
-use za_script::{Answer, weave};
+use za_script::{Answer, Woven, weave};
 use za_table::Ended;
 
 /// What is due for a job: what is said, and the finished run of which it was made.
@@ -67,19 +75,38 @@ fn run_on_threads<R: Threads + Wait + Sync, G: Gate>(
     za_runner::run(rt, alloc, closed, scripts, cache, gate)
 }
 
-/// The answer of a finished run, and its text. The weave says in which order the letters are told that were
-/// fired where the scripts are stuck; it is made when the run is over.
-fn told(alloc: Global, job: &Job, run: &Ended, cache: u8) -> Result<Said, OutOfMemory>
-    requires job { IsJob (data_of job.now) }
-    requires run { IsRunOf (data_of job.now) run.now }
-    ensures answered { IfOk result (λ said.
-        IsAnswered (data_of job.now) (Command.Solo cache) said.status said.text.items) }
-    ensures made { IfOk result (λ said.
-        said.text.items ≡ answer_text_of (data_of job.now).naming.names run.now cache) }
+/// The hope that goes with an answer: where the scripts are stuck, that of the state to which the woven word
+/// leads in the minimal automaton.
+fn hope_with(
+    alloc: Global,
+    it: &ClosedJob,
+    woven: &Woven,
+    answer: Answer,
+) -> Result<Option<Hope>, OutOfMemory>
+    requires job { IsCompiled it.now }
+    requires woven { woven.now.word ≡ woven_of (data_of it.now.job) }
+    ensures { IfOk result (HasHope (data_of it.now.job) answer) }
 {
+    let dfa = it.closed.dfa();
+    let state = dfa.run(dfa.start(), woven.word());
+    hope_of(alloc, dfa, state, answer)
+}
+
+/// The answer of a finished run, and its text. The weave says in which order the letters are told that were
+/// fired where the scripts are stuck, and what hope there is; it is made when the run is over.
+fn told(alloc: Global, it: &ClosedJob, run: &Ended, cache: u8) -> Result<Said, OutOfMemory>
+    requires job { IsCompiled it.now }
+    requires run { IsRunOf (data_of it.now.job) run.now }
+    ensures answered { IfOk result (λ said. (claim : Option ClaimData) →
+        IsAnswered (data_of it.now.job) claim (Command.Solo cache) said.status said.text.items) }
+    ensures made { IfOk result (λ said.
+        TellsAnswer (data_of it.now.job).naming.names run.now cache said.text.items) }
+{
+    let job = &it.job;
     let alphabet = job.lang.alphabet();
     let woven = weave(alloc, alphabet, &job.scripts)?;
     let answer = run.answer();
+    let hope = hope_with(alloc, it, &woven, answer)?;
     let text = answer_text(
         alloc,
         job.lang.names(),
@@ -87,6 +114,7 @@ fn told(alloc: Global, job: &Job, run: &Ended, cache: u8) -> Result<Said, OutOfM
         &job.scripts,
         &woven,
         answer,
+        hope,
         cache,
     )?;
     Ok(Said {
@@ -99,12 +127,12 @@ fn told(alloc: Global, job: &Job, run: &Ended, cache: u8) -> Result<Said, OutOfM
 fn solo(alloc: Global, it: &ClosedJob, cache: u8) -> Result<Output, OutOfMemory>
     requires { IsCompiled it.now }
     ensures answered { IfOk result (λ output.
-        IsAnswered (data_of it.now.job) (Command.Solo cache) output.said.status output.said.text.items) }
+        IsAnswered (data_of it.now.job) it.now.claim (Command.Solo cache) output.said.status output.said.text.items) }
     ensures made { IfOk result (λ output.
         IsMade (Command.Solo cache) (data_of it.now.job) output.said.text.items output.shown) }
 {
     let ended = run_alone(alloc, it, cache)?;
-    let said = told(alloc, &it.job, &ended, cache)?;
+    let said = told(alloc, it, &ended, cache)?;
     Ok(Output {
         said,
         shown: Shown::Solo(ended),
@@ -121,12 +149,12 @@ fn run<R: Threads + Wait + Sync, G: Gate>(
 ) -> Result<Output, OutOfMemory>
     requires { IsCompiled it.now }
     ensures answered { IfOk result (λ output.
-        IsAnswered (data_of it.now.job) (Command.Run cache) output.said.status output.said.text.items) }
+        IsAnswered (data_of it.now.job) it.now.claim (Command.Run cache) output.said.status output.said.text.items) }
     ensures made { IfOk result (λ output.
         IsMade (Command.Run cache) (data_of it.now.job) output.said.text.items output.shown) }
 {
     let closed = run_on_threads(rt, alloc, it, cache, gate)?;
-    let said = told(alloc, &it.job, closed.ended(), cache)?;
+    let said = told(alloc, it, closed.ended(), cache)?;
     Ok(Output {
         said,
         shown: Shown::Hall(closed),
@@ -137,7 +165,7 @@ fn run<R: Threads + Wait + Sync, G: Gate>(
 fn check(alloc: Global, it: &ClosedJob, cache: u8) -> Result<Output, OutOfMemory>
     requires { IsCompiled it.now }
     ensures answered { IfOk result (λ output.
-        IsAnswered (data_of it.now.job) (Command.Check cache) output.said.status output.said.text.items) }
+        IsAnswered (data_of it.now.job) it.now.claim (Command.Check cache) output.said.status output.said.text.items) }
     ensures made { IfOk result (λ output.
         IsMade (Command.Check cache) (data_of it.now.job) output.said.text.items output.shown) }
 {
@@ -157,7 +185,7 @@ fn check(alloc: Global, it: &ClosedJob, cache: u8) -> Result<Output, OutOfMemory
 fn locals(alloc: Global, it: &ClosedJob, cache: u8) -> Result<Output, OutOfMemory>
     requires { IsCompiled it.now }
     ensures answered { IfOk result (λ output.
-        IsAnswered (data_of it.now.job) (Command.Locals cache) output.said.status output.said.text.items) }
+        IsAnswered (data_of it.now.job) it.now.claim (Command.Locals cache) output.said.status output.said.text.items) }
     ensures made { IfOk result (λ output.
         IsMade (Command.Locals cache) (data_of it.now.job) output.said.text.items output.shown) }
 {
@@ -169,6 +197,88 @@ fn locals(alloc: Global, it: &ClosedJob, cache: u8) -> Result<Output, OutOfMemor
     })
 }
 
+/// The events of a finished run in the order in which they were fired, with their labels.
+fn fired_events(alloc: Global, run: &Ended) -> Result<Vec<Event>, OutOfMemory>
+    ensures { IfOk result (λ events. events.items ≡ fired_events run.now.given.dfa.alphabet run.now.state.journal) }
+{
+    let mut events = Vec::new(alloc);
+    for (at, letter) in run.word().letters().iter().enumerate() {
+        let label = run.label(at);
+        events.push(Event {
+            letter: *letter,
+            label,
+        })?;
+    }
+    Ok(events)
+}
+
+/// The journal of a finished run as a claim: its answer, and its events in order with their labels.
+fn recorded(alloc: Global, job: &Job, run: &Ended) -> Result<Said, OutOfMemory>
+    requires job { IsJob (data_of job.now) }
+    requires run { IsRunOf (data_of job.now) run.now }
+    ensures status { IfOk result (λ said. said.status ≡ status_of (answer_in run.now)) }
+    ensures made { IfOk result (λ said. said.text.items ≡ journal_text_of run.now) }
+{
+    let events = fired_events(alloc, run)?;
+    let answer = run.answer();
+    let text = print_claim(alloc, job.lang.alphabet(), answer, events.as_slice())?;
+    let status = status_of(answer);
+    Ok(Said { status, text })
+}
+
+/// The journal of a run on threads.
+fn journal<R: Threads + Wait + Sync, G: Gate>(
+    rt: &R,
+    alloc: Global,
+    it: &ClosedJob,
+    cache: u8,
+    gate: &G,
+) -> Result<Output, OutOfMemory>
+    requires { IsCompiled it.now }
+    ensures answered { IfOk result (λ output. IsAnswered (data_of it.now.job) it.now.claim (Command.Journal cache)
+        output.said.status output.said.text.items) }
+    ensures made { IfOk result (λ output.
+        IsMade (Command.Journal cache) (data_of it.now.job) output.said.text.items output.shown) }
+{
+    let closed = run_on_threads(rt, alloc, it, cache, gate)?;
+    let said = recorded(alloc, &it.job, closed.ended())?;
+    let shown = Shown::Hall(closed);
+    Ok(Output { said, shown })
+}
+
+/// The number that a verdict ends with.
+fn status_of_verdict(verdict: &Audit) -> u8
+    ensures { result ≡ status_of_verdict verdict.now }
+{
+    match verdict {
+        Audit::Yes { .. } => 0,
+        Audit::BadLetter { .. }
+        | Audit::BadLabel { .. }
+        | Audit::NotMaximal { .. }
+        | Audit::WrongAnswer { .. } => 1,
+    }
+}
+
+/// The verdict on a claim about the job.
+fn judged(alloc: Global, it: &ClosedJob, claim: &Claim) -> Result<Output, OutOfMemory>
+    requires job { IsCompiled it.now }
+    requires claim { it.now.claim ≡ Some claim.now }
+    ensures answered { IfOk result (λ output.
+        IsAnswered (data_of it.now.job) it.now.claim Command.Audit output.said.status output.said.text.items) }
+    ensures made { IfOk result (λ output.
+        IsMade Command.Audit (data_of it.now.job) output.said.text.items output.shown) }
+{
+    let verdict = audit(alloc, &it.job, claim)?;
+    let text = audit_text(alloc, it.job.lang.alphabet(), &verdict)?;
+    Ok(Output {
+        said: Said {
+            status: status_of_verdict(&verdict),
+            text,
+        },
+        shown: Shown::Nothing,
+    })
+}
+
 /// What a command answers that waits for nobody.
 pub(crate) fn answer_alone(
     alloc: Global,
@@ -177,8 +287,9 @@ pub(crate) fn answer_alone(
 ) -> Result<Output, OutOfMemory>
     requires job { IsCompiled it.now }
     requires alone { runs_on_threads command ≡ false }
+    requires claim { command ≡ Command.Audit → is_some it.now.claim ≡ true }
     ensures answered { IfOk result (λ output.
-        IsAnswered (data_of it.now.job) command output.said.status output.said.text.items) }
+        IsAnswered (data_of it.now.job) it.now.claim command output.said.status output.said.text.items) }
     ensures made { IfOk result (λ output.
         IsMade command (data_of it.now.job) output.said.text.items output.shown) }
 {
@@ -186,7 +297,11 @@ pub(crate) fn answer_alone(
         Command::Solo { cache } => solo(alloc, it, cache),
         Command::Check { cache } => check(alloc, it, cache),
         Command::Locals { cache } => locals(alloc, it, cache),
-        Command::Run { .. } => unreachable!(),
+        Command::Audit => match &it.claim {
+            Some(claim) => judged(alloc, it, claim),
+            None => unreachable!(),
+        },
+        Command::Run { .. } | Command::Journal { .. } => unreachable!(),
     }
 }
 
@@ -201,12 +316,14 @@ pub(crate) fn answer_on_threads<R: Threads + Wait + Sync, G: Gate>(
     requires job { IsCompiled it.now }
     requires threads { runs_on_threads command ≡ true }
     ensures answered { IfOk result (λ output.
-        IsAnswered (data_of it.now.job) command output.said.status output.said.text.items) }
+        IsAnswered (data_of it.now.job) it.now.claim command output.said.status output.said.text.items) }
     ensures made { IfOk result (λ output.
         IsMade command (data_of it.now.job) output.said.text.items output.shown) }
 {
     match command {
         Command::Run { cache } => run(rt, alloc, it, cache, gate),
-        Command::Solo { .. } | Command::Check { .. } | Command::Locals { .. } => unreachable!(),
+        Command::Journal { cache } => journal(rt, alloc, it, cache, gate),
+        Command::Solo { .. } | Command::Check { .. } | Command::Locals { .. } | Command::Audit =>
+            unreachable!(),
     }
 }

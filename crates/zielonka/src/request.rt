@@ -19,13 +19,15 @@ pub enum Call {
     Top,
 }
 
-/// A command that reads a job, with so many rows of a cache, 0 to 64.
+/// A command that reads a job, with so many rows of a cache, 0 to 64. `Audit` reads a claim about it too.
 #[derive(Clone, Copy, Debug, PartialEq, Eq)]
 pub enum Command {
     Solo { cache: u8 },
     Run { cache: u8 },
     Check { cache: u8 },
     Locals { cache: u8 },
+    Journal { cache: u8 },
+    Audit,
 }
 
 /// What command words ask of a call.
@@ -33,8 +35,6 @@ pub enum Command {
 pub enum Request {
     /// They are in no form: the usage line.
     Usage,
-    /// They are in a form that isn't built yet.
-    NotBuilt,
     /// A command that reads a job.
     Answer(Command),
     /// The job that is generated from a number.
@@ -75,7 +75,8 @@ fn request_by(plan: Plan) -> Request
         Plan::Run { cache } => Request::Answer(Command::Run { cache }),
         Plan::Check { cache } => Request::Answer(Command::Check { cache }),
         Plan::Locals { cache } => Request::Answer(Command::Locals { cache }),
-        Plan::Journal { .. } | Plan::Audit => Request::NotBuilt,
+        Plan::Journal { cache } => Request::Answer(Command::Journal { cache }),
+        Plan::Audit => Request::Answer(Command::Audit),
         Plan::Gen { number } => Request::Generate { number },
     }
 }

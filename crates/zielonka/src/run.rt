@@ -25,8 +25,6 @@ const USAGE: &[u8] =
 
 const TOO_LONG: &[u8] = b"refused: more than 1048576 bytes\n";
 
-const NOT_BUILT: &[u8] = b"not built\n";
-
 /// How a call begins: it is over, or a job is to be answered of which nothing was written yet.
 #[derive(Drop)]
 enum Begun {
@@ -68,7 +66,8 @@ fn tell<K: Sink>(sink: &mut K, status: u8, text: &[u8]) -> Outcome
     }
 }
 
-/// Reads the source to its end, and refuses bytes that are no job with a trace-closed language.
+/// Reads the source to its end, and refuses bytes that aren't what the command reads, or whose job has a
+/// language that isn't trace-closed.
 fn take<S: Source, K: Sink>(alloc: Global, command: Command, source: &mut S, sink: &mut K) -> Begun
     ensures { HasBegun (Request.Answer command)
         (ends_of (S.left source.old) (S.faults source.old) (K.written sink.old) (K.faults sink.old))
@@ -79,7 +78,7 @@ fn take<S: Source, K: Sink>(alloc: Global, command: Command, source: &mut S, sin
         Err(ReadEnd::Fault) => Begun::Over(unshown(6)),
         Err(ReadEnd::OutOfMemory) => Begun::Over(unshown(8)),
         Err(ReadEnd::TooLong) => Begun::Over(tell(sink, 9, TOO_LONG)),
-        Ok(bytes) => match judge(alloc, bytes.as_slice()) {
+        Ok(bytes) => match judge(alloc, command, bytes.as_slice()) {
             Err(OutOfMemory) => Begun::Over(unshown(8)),
             Ok(Judged::Refused(said)) => {
                 Begun::Over(tell(sink, said.status, said.text.as_slice()))
@@ -105,7 +104,6 @@ fn begin<S: Source, K: Sink>(
     match request_in(alloc, call, words) {
         Err(OutOfMemory) => Begun::Over(unshown(8)),
         Ok(Request::Usage) => Begun::Over(tell(sink, 2, USAGE)),
-        Ok(Request::NotBuilt) => Begun::Over(tell(sink, 10, NOT_BUILT)),
         Ok(Request::Answer(command)) => take(alloc, command, source, sink),
         Ok(Request::Generate { number }) => match job_of(alloc, number) {
             Err(OutOfMemory) => Begun::Over(unshown(8)),
@@ -134,9 +132,11 @@ fn finish<K: Sink>(sink: &mut K, made: Result<Output, OutOfMemory>) -> Outcome
 /// what the automaton of the job says of all words that weave the job's scripts. It says how many letters
 /// the weave has, and where the scripts are stuck, which these are and what each process waits for.
 /// `check` answers how many states the minimal automaton of the job's language has (0). `locals` answers
-/// what each process knows after the weave (0). `gen` writes the job that is generated from a number (0). Of
-/// other forms `audit` isn't built yet (10), and `run` and `journal` are none here; those, and words in no
-/// form, are answered by the usage line (2). In these three cases the source isn't read.
+/// what each process knows after the weave (0). `audit` reads a claim after the job, and answers whether it is
+/// yes (0) or what is wrong with it (1): the first event whose letter can't fire or that has another label than
+/// the one by definition, a letter that can still fire, or the answer. `gen` writes the job that is generated
+/// from a number (0). The forms of `run` and `journal` are none here; those, and words in no form, are answered
+/// by the usage line (2). Then, and with `gen`, the source isn't read.
 ///
 /// The scripts of `solo` and of `locals` are run on one thread, on the local states of the processes alone,
 /// with so many rows of a cache as the words say, which the printed bound counts. Where a text was made so,
@@ -144,12 +144,12 @@ fn finish<K: Sink>(sink: &mut K, made: Result<Output, OutOfMemory>) -> Outcome
 /// the job's, its word is the weave, and its answer is the one to the scripts. With a status of 0, 1, 3
 /// or 7 nothing is shown only where no such text was due.
 ///
-/// Bytes that are no document are refused at their first wrong line (4), more than 1,048,576 of them
-/// too (9). A language that isn't closed under trace equivalence is answered by two equivalent words
-/// of which one is accepted (5), the least. Status 6 comes only where the source's count of faults rose,
-/// with nothing written, and 7 only where the sink's did, after a proper prefix of the text that is due;
-/// a count that stands at its last value counts as one that rose. Status 8, want of memory, comes with
-/// nothing written.
+/// Bytes that are no document, and with `audit` no document with a claim after it, are refused at their first
+/// wrong line (4), and more than 1,048,576 of them too (9). A language that isn't closed under trace
+/// equivalence is answered by two equivalent words of which one is accepted (5), the least. Status 6 comes
+/// only where the source's count of faults rose, with nothing written, and 7 only where the sink's did, after
+/// a proper prefix of the text that is due; a count that stands at its last value counts as one that rose.
+/// Status 8, want of memory, comes with nothing written.
 ///
 /// What is said of bytes holds where the source tells the bytes that it has left, and the sink those that
 /// were written to it.
@@ -175,12 +175,13 @@ pub fn plain<S: Source, K: Sink>(
 }
 
 /// The program for the commands that run on threads: as `plain`, but of the forms it has those of `run` and
-/// `journal` alone, and all others are answered by the usage line (2). `journal` isn't built yet (10).
+/// `journal` alone, and all others are answered by the usage line (2).
 ///
 /// `run` runs the scripts in a hall, with a thread for each process, which passes `gate` before each of its steps.
 /// It ends with the status and the text of `solo`, whatever the schedule was, and the text is made of the closed
 /// hall, which is shown: its answer is the answer to the scripts, and its word is equivalent to the weave, in the order
-/// in which the threads fired it.
+/// in which the threads fired it. `journal` runs them so too, and ends with that status. It writes this word, each
+/// letter with its label, and the answer as a claim, which `audit` reads after the job and says yes to.
 ///
 /// It may wait, since threads wait for one another, and nothing says that it returns: all this holds if it does.
 pub fn threaded<R: Threads + Wait + Sync, S: Source, K: Sink, G: Gate>(

@@ -5,14 +5,13 @@ use za_table::Ended;
 ///
 /// | Number | Meaning |
 /// |---|---|
-/// | 0, 1, 3 | accept or done, reject, stuck |
+/// | 0, 1, 3 | accept or done, or an audit that says yes; reject, or an audit that doesn't; stuck |
 /// | 2 | usage: the words are in no form of the call |
-/// | 4 | the input is no document |
+/// | 4 | the input is no document, or for `audit` no document with a claim after it |
 /// | 5 | the language is not closed under trace equivalence |
 /// | 6, 7 | a read, a write failed |
 /// | 8 | want of memory |
 /// | 9 | the input has more than 1,048,576 bytes |
-/// | 10 | `journal` and `audit`, which are not built yet |
 #[derive(Clone, Copy, Debug, PartialEq, Eq)]
 pub struct Status(pub u8);
 

@@ -18,13 +18,13 @@ use za_script::{Answer, Scripts};
 use za_table::Ended;
 
 /// Two processes with a letter each and one that they share. Words with an even number of `a` are accepted.
-const TWO: &str =
+pub(crate) const TWO: &str =
     "zla 1\nprocesses 2\nletter a 0\nletter b 1\nletter c 0 1\nstates 2\nstart 0\naccept 0\n\
     row 0 a 1\nrow 0 b 0\nrow 0 c 0\nrow 1 a 0\nrow 1 b 1\nrow 1 c 1\n\
     script 0 a c a\nscript 1 b c\nend\n";
 
 /// The same with scripts of which process 0 waits for a partner that has ended.
-const TWO_STUCK: &str =
+pub(crate) const TWO_STUCK: &str =
     "zla 1\nprocesses 2\nletter a 0\nletter b 1\nletter c 0 1\nstates 2\nstart 0\naccept 0\n\
     row 0 a 1\nrow 0 b 0\nrow 0 c 0\nrow 1 a 0\nrow 1 b 1\nrow 1 c 1\n\
     script 0 c a\nscript 1 b\nend\n";
@@ -49,8 +49,13 @@ const LOCK_BROKEN: &str =
     script 0 work0 lock0 unlock0\nscript 1 lock1 work1 unlock1\n\
     script 2 lock1 unlock1 lock0 unlock0\nend\n";
 
+/// One process with a letter, of which an even number is accepted.
+const THREE_TIMES: &str =
+    "zla 1\nprocesses 1\nletter a 0\nstates 2\nstart 0\naccept 0\nrow 0 a 1\nrow 1 a 0\nscript 0 a a a\nend\n";
+
 /// Two processes with a letter each, and one state.
-const APART: &str = "zla 1\nprocesses 2\nletter a 0\nletter b 1\nstates 1\nstart 0\naccept 0\n\
+pub(crate) const APART: &str =
+    "zla 1\nprocesses 2\nletter a 0\nletter b 1\nstates 1\nstart 0\naccept 0\n\
     row 0 a 0\nrow 0 b 0\nscript 0 a\nscript 1 b\nend\n";
 
 fn strings(alloc: Global, texts: &[&str]) -> Result<Vec<String>, AllocError> {
@@ -63,13 +68,13 @@ fn strings(alloc: Global, texts: &[&str]) -> Result<Vec<String>, AllocError> {
 
 /// What is shown: nothing, or a run of so many letters.
 #[derive(Clone, Copy, Debug, PartialEq, Eq)]
-enum Ran {
+pub(crate) enum Ran {
     Nothing,
     Alone(usize),
     OnThreads(usize),
 }
 
-fn shown(outcome: &Outcome) -> Ran {
+pub(crate) fn shown(outcome: &Outcome) -> Ran {
     match &outcome.shown {
         Shown::Nothing => Ran::Nothing,
         Shown::Solo(ended) => Ran::Alone(ended.word().len()),
@@ -89,9 +94,11 @@ type Case = (
 
 const ACCEPTED: &str = "accept\nfired 4\nbound labels 27 records 3\n";
 
+const REUSED: &str = "claim reject\nfire a.0\nfire a.1\nfire a.0\nend\n";
+
 const LOCAL_STATES: &str = "p0 a.0 c.0 view 0\np1 c.0 c.0 view 1\n";
 
-const CASES: [Case; 16] = [
+const CASES: [Case; 22] = [
     (&["solo"], TWO, 64, 0, ACCEPTED, Ran::Alone(4)),
     (&["run"], TWO, 64, 0, ACCEPTED, Ran::OnThreads(4)),
     // the bound counts the rows of the cache
@@ -128,8 +135,6 @@ const CASES: [Case; 16] = [
         LOCAL_STATES,
         Ran::Alone(4),
     ),
-    (&["audit"], TWO, 64, 10, "not built\n", Ran::Nothing),
-    (&["journal"], TWO, 64, 10, "not built\n", Ran::Nothing),
     // the run is shown though its text was not written whole
     (&["solo"], TWO, 5, 7, "accep", Ran::Alone(4)),
     (&["run"], TWO, 5, 7, "accep", Ran::OnThreads(4)),
@@ -139,7 +144,7 @@ const CASES: [Case; 16] = [
         200,
         3,
         "stuck\nfired 1\nbound labels 27 records 3\n\
-        process 0 fired 0 waits c\nprocess 1 fired 1 ended\ntrace b\n",
+        process 0 fired 0 waits c\nprocess 1 fired 1 ended\ntrace b\nalive\n",
         Ran::OnThreads(1),
     ),
     (
@@ -148,7 +153,7 @@ const CASES: [Case; 16] = [
         200,
         3,
         "stuck\nfired 0\nbound labels 84 records 4\nprocess 0 fired 0 waits x\n\
-        process 1 fired 0 waits y\nprocess 2 fired 0 waits z\ntrace\n",
+        process 1 fired 0 waits y\nprocess 2 fired 0 waits z\ntrace\nalive\n",
         Ran::OnThreads(0),
     ),
     (
@@ -167,7 +172,43 @@ const CASES: [Case; 16] = [
         "reject\nfired 6\nbound labels 168 records 4\n",
         Ran::OnThreads(6),
     ),
-    // a text that is no document
+    // a label is used again once its event is out of everybody's news
+    (&["journal"], THREE_TIMES, 64, 1, REUSED, Ran::OnThreads(3)),
+    (
+        &["journal", "--cache=1"],
+        THREE_TIMES,
+        64,
+        1,
+        REUSED,
+        Ran::OnThreads(3),
+    ),
+    (
+        &["journal"],
+        TWO_STUCK,
+        64,
+        3,
+        "claim stuck\nfire b.0\nend\n",
+        Ran::OnThreads(1),
+    ),
+    (
+        &["journal"],
+        RING,
+        64,
+        3,
+        "claim stuck\nend\n",
+        Ran::OnThreads(0),
+    ),
+    (
+        &["journal"],
+        LOCK,
+        200,
+        0,
+        "claim accept\nfire lock1.0\nfire work1.0\nfire unlock1.0\n\
+        fire lock0.0\nfire work0.0\nfire unlock0.0\nend\n",
+        Ran::OnThreads(6),
+    ),
+    (&["journal"], TWO_STUCK, 5, 7, "claim", Ran::OnThreads(1)),
+    // texts that are no document, and no document with a claim
     (
         &["run"],
         "zla 1\n",
@@ -176,13 +217,29 @@ const CASES: [Case; 16] = [
         "refused line 2: end is missing\n",
         Ran::Nothing,
     ),
+    (
+        &["journal"],
+        "zla 1\n",
+        64,
+        4,
+        "refused line 2: end is missing\n",
+        Ran::Nothing,
+    ),
+    (
+        &["audit"],
+        TWO,
+        64,
+        4,
+        "refused line 18: end is missing\n",
+        Ran::Nothing,
+    ),
 ];
 
 /// What a call came to, and what it wrote.
-type Run = (Outcome, MemSink);
+pub(crate) type Run = (Outcome, MemSink);
 
 /// Runs the program over a document, with so much room for its text.
-fn run_top<R: Threads + Wait + Sync, G: Gate>(
+pub(crate) fn run_top<R: Threads + Wait + Sync, G: Gate>(
     rt: &R,
     alloc: Global,
     texts: &[&str],
@@ -197,7 +254,7 @@ fn run_top<R: Threads + Wait + Sync, G: Gate>(
     Ok((outcome, sink))
 }
 
-fn assert_said(rt: &impl Abort, run: &Run, status: u8, text: &str) {
+pub(crate) fn assert_said(rt: &impl Abort, run: &Run, status: u8, text: &str) {
     assert_eq!(rt; run.0.status, Status(status));
     assert_eq!(rt; run.1.bytes(), text.as_bytes());
 }
@@ -260,7 +317,7 @@ fn threaded_has_no_form_of_solo(rt: HostRuntime) -> Result<(), Fail> {
 const LIMIT: u64 = 10_000_000;
 
 /// Waits until the flag is set. It says whether it was, within the limit.
-fn is_set_in_time(flag: &AtomicU64) -> bool {
+pub(crate) fn is_set_in_time(flag: &AtomicU64) -> bool {
     for _ in 0..LIMIT {
         if flag.load(SeqCst) == 1 {
             return true;

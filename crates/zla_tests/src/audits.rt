@@ -74,6 +74,6 @@ fn a_large_run_is_audited(rt: HostRuntime) -> Result<(), Fail> {
     let mut text = job_of(alloc, 7)?;
     let claim = claim_of_weave(&rt, alloc, text.as_slice())?;
     text.extend_from_slice(claim.as_slice())?;
-    assert_eq!(rt; verdict(alloc, text.as_slice())?, Audit::Yes);
+    assert_eq!(rt; verdict(alloc, text.as_slice())?, Audit::Yes { hope: None });
     Ok(())
 }

@@ -4,6 +4,11 @@
 pub(crate) const TWO: &str = "zla 1\nprocesses 2\nletter a 0\nletter b 1\nletter c 0 1\n\
     states 2\nstart 0\naccept 0\nrow 0 a 1\nrow 0 b 0\nrow 0 c 0\nrow 1 a 0\nrow 1 b 1\nrow 1 c 1\n";
 
+/// The same letters, in one state. `b` has no row, so no word with a `b` is accepted.
+pub(crate) const WITHOUT_B: &str =
+    "zla 1\nprocesses 2\nletter a 0\nletter b 1\nletter c 0 1\nstates 1\n\
+    start 0\naccept 0\nrow 0 a 0\nrow 0 c 0\n";
+
 /// Scripts for these two that are used up.
 pub(crate) const TWO_SCRIPTS: &str = "script 0 a c a\nscript 1 b c\nend\n";
 

@@ -7,7 +7,9 @@ use std::process::Abort;
 use std::test::Fail;
 use za_alpha::{Alphabet, Letter, LetterRow};
 use za_dfa::{Dfa, Row};
+use za_hope::hope_of;
 use za_min::{Hope, Live, Minimal, minimise};
+use za_script::Answer;
 
 const A: Letter = Letter(0);
 
@@ -211,6 +213,16 @@ fn try_hopes<R: Abort + AllocGlobal>(rt: &R, dfa: &Dfa, hopes: &[(u8, Hope)]) ->
     for (q, hope) in hopes {
         assert!(rt; (*q as usize) < dfa.states());
         assert_eq!(rt; live.hope(*q), *hope, "at {q}");
+        assert_eq!(rt;
+            hope_of(rt.alloc(), dfa, *q, Answer::Stuck)?,
+            Some(*hope),
+            "at {q}"
+        );
+        assert_eq!(rt;
+            hope_of(rt.alloc(), dfa, *q, Answer::Reject)?,
+            None,
+            "at {q}"
+        );
     }
     Ok(())
 }

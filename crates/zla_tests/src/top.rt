@@ -2,6 +2,7 @@
 
 use crate::jobs::{
     LAST, LOCK, LOCK_SCRIPTS, MERGED, OPEN, OPEN_AFTER_C, RING, STUCK_SCRIPTS, TWO, TWO_SCRIPTS,
+    WITHOUT_B,
 };
 use std::alloc::{AllocError, Global};
 use std::process::Abort;
@@ -31,6 +32,8 @@ pub(crate) const SOLO: &[&str] = &["solo"];
 const CHECK: &[&str] = &["check"];
 
 const LOCALS: &[&str] = &["locals"];
+
+const AUDIT: &[&str] = &["audit"];
 
 fn strings(alloc: Global, texts: &[&str]) -> Result<Vec<String>, AllocError> {
     let mut strings = Vec::new(alloc);
@@ -89,7 +92,7 @@ const NONE_FIRED: &str = "accept\nfired 0\nbound labels 27 records 3\n";
 
 const BROKEN: &str = "not closed\nleft a b\nright b a\n";
 
-const ANSWERS: [Case; 20] = [
+const ANSWERS: [Case; 23] = [
     // both processes use up their scripts
     (SOLO, TWO, TWO_SCRIPTS, 0, ACCEPTED),
     (
@@ -105,7 +108,16 @@ const ANSWERS: [Case; 20] = [
         STUCK_SCRIPTS,
         3,
         "stuck\nfired 1\nbound labels 27 records 3\n\
-        process 0 fired 0 waits c\nprocess 1 fired 1 ended\ntrace b\n",
+        process 0 fired 0 waits c\nprocess 1 fired 1 ended\ntrace b\nalive\n",
+    ),
+    // the same, but no accepted word has a `b`
+    (
+        SOLO,
+        WITHOUT_B,
+        STUCK_SCRIPTS,
+        3,
+        "stuck\nfired 1\nbound labels 27 records 3\n\
+        process 0 fired 0 waits c\nprocess 1 fired 1 ended\ntrace b\ndead\n",
     ),
     // stuck at once, in an accepting state
     (
@@ -114,7 +126,7 @@ const ANSWERS: [Case; 20] = [
         "script 0 c\nend\n",
         3,
         "stuck\nfired 0\nbound labels 27 records 3\n\
-        process 0 fired 0 waits c\nprocess 1 fired 0 ended\ntrace\n",
+        process 0 fired 0 waits c\nprocess 1 fired 0 ended\ntrace\nalive\n",
     ),
     // scripts without letters, and no scripts
     (SOLO, TWO, "script 0\nscript 1\nend\n", 0, NONE_FIRED),
@@ -200,6 +212,23 @@ const ANSWERS: [Case; 20] = [
         "p0 f.0 c.0 f.0 d.0 view 0\np1 e.0 c.0 c.0 d.0 view 1\n\
         p2 f.0 c.0 f.0 d.0 view 0\np3 e.0 d.0 - d.0 view 0\n",
     ),
+    // a right claim of a stuck run, which can or can not be saved
+    (
+        AUDIT,
+        TWO,
+        "script 0 c a\nscript 1 b\nend\n\
+        claim stuck\nfire b.0\nend\n",
+        0,
+        "audit yes alive\n",
+    ),
+    (
+        AUDIT,
+        WITHOUT_B,
+        "script 0 c a\nscript 1 b\nend\n\
+        claim stuck\nfire b.0\nend\n",
+        0,
+        "audit yes dead\n",
+    ),
 ];
 
 #[test]
@@ -213,7 +242,7 @@ fn whole_texts(rt: HostRuntime) -> Result<(), Fail> {
 const USAGE: &str = "usage: zla solo|run|check|locals|journal [--cache C], zla audit, zla gen N\n";
 
 /// Words for which nothing is read.
-const UNREAD: [Case; 10] = [
+const UNREAD: [Case; 9] = [
     (&[], "", "", 2, USAGE),
     (&["solo", "extra"], "", "", 2, USAGE),
     (&["--help"], "", "", 2, USAGE),
@@ -224,8 +253,6 @@ const UNREAD: [Case; 10] = [
     // forms of the commands on threads
     (&["run"], "", "", 2, USAGE),
     (&["journal", "--cache=1"], "", "", 2, USAGE),
-    // the form that isn't built
-    (&["audit"], "", "", 10, "not built\n"),
 ];
 
 /// Streams that take so many bytes a call, and of which these calls fail.
@@ -249,9 +276,14 @@ fn words_and_streams_that_fail(rt: HostRuntime) -> Result<(), Fail> {
         (taking(64, 64, 2, 0), (SOLO, TWO, TWO_SCRIPTS, 6, "")),
         // the first write, of which nothing is taken: it isn't tried again
         (taking(64, 64, 0, 1), (SOLO, TWO, TWO_SCRIPTS, 7, "")),
-        // the second write, of an answer and of a refusal
+        (taking(64, 64, 2, 0), (AUDIT, TWO, TWO_SCRIPTS, 6, "")),
+        // the second write, of an answer and of refusals
         (taking(64, 5, 0, 2), (SOLO, TWO, TWO_SCRIPTS, 7, "accep")),
         (taking(1, 7, 0, 2), (CHECK, OPEN, "end", 7, "refused")),
+        (
+            taking(1, 7, 0, 2),
+            (AUDIT, OPEN, "end\nend\n", 7, "refused"),
+        ),
     ] {
         assert_case(&rt, alloc, streams, &case)?;
     }

@@ -27,7 +27,7 @@ const CASES: [Case; 6] = [
         "script left c a\nscript right b\nend\n",
         3,
         "stuck\nfired 1\nbound labels 27 records 3\nprocess left fired 0 waits c\n\
-            process right fired 1 ended\ntrace b\n",
+            process right fired 1 ended\ntrace b\nalive\n",
     ),
     (
         NAMED,

@@ -2,6 +2,7 @@
 use Rattle.std.specs.Prelude.{◌≡◌, ℕ, ◌≤◌, List, [], ◌∷◌, Option, Some, None, vec_capacity}
 use Rattle.za_cache.specs.Lines.{Lines, LineKey}
 use Rattle.za_shared.specs.Records.{Records, AreRecords, bound}
+use Rattle.za_shared.specs.Marks.{AreMarked}
 use Rattle.za_shared.specs.declared.shared.SharedLocals.TheInside.{Inside}
 
 abbrev pub lines_of_rows : Option Lines → List (LineKey × ℕ)
@@ -27,9 +28,11 @@ records_in inside = record {
   spares = inside.spares.items;
 }
 
--- the records are right, there is room for all spares, and the bench is for this automaton
+-- the records are right, there is room for all spares, the bench is for this automaton, and keys have the marks of
+-- their records
 pub record AreRecordsInside (inside : Inside) : Type 0 where
   pub records : AreRecords (records_in inside)
   pub room : bound inside.closed.alphabet.processes (cache_in inside.rows) ≤ vec_capacity inside.spares
   pub processes : inside.bench.processes ≡ inside.closed.alphabet.processes
   pub states : inside.bench.states ≡ inside.closed.states
+  pub marks : AreMarked inside.shelf inside.marks.items

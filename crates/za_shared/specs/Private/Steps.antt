@@ -1,5 +1,5 @@
 -- What the steps of a firing do to the shelf, the keys and the spare records.
-use Rattle.std.specs.Prelude.{◌≡◌, ℕ, ◌+◌, ◌-◌, ◌<◌, ◌==◌, ◌&&◌, not, take, All, cond, List, [], ◌∷◌}
+use Rattle.std.specs.Prelude.{◌≡◌, ℕ, ◌+◌, ◌-◌, ◌<◌, ◌==◌, ◌&&◌, ◌⊎◌, not, take, All, cond, List, [], ◌∷◌}
 use Rattle.std.specs.Prelude.{length, map, count_by, nat_lt, slice_index, slice_index_or}
 use Rattle.za_alpha.specs.Words.{has}
 use Rattle.za_alpha.specs.Alphabet.{loc_of}
@@ -62,6 +62,29 @@ pub record HaveChanged (old new : Shelf LocalState) (before after : List LocalSt
 abbrev pub key_given : List ℕ → ℕ → ℕ → List ℕ → ℕ → ℕ
 key_given ps key p keys q = cond (nat_lt q p && has ps q) key (slice_index keys q)
 
+-- how many of these processes have the key
+abbrev pub held_by : List ℕ → List ℕ → ℕ → ℕ
+held_by keys ps k = count_by (λ p. slice_index keys p == k) ps
+
+-- these processes have this key in place of theirs, and each key so many holders more or fewer
+pub record HaveTurned (old new ps : List ℕ) (key : ℕ) : Type 0 where
+  pub size : length new ≡ length old
+  pub keys : (p : ℕ) → slice_index new p ≡ key_given ps key (length old) old p
+  pub counts : (k : ℕ) → count_by (λ x. x == k) new + held_by old ps k ≡
+      count_by (λ x. x == k) old + cond (key == k) (length ps) 0
+
+-- so many holders more have a key with the value: where a live key has it that one, else the value is put under a new
+-- one. Otherwise the value is spare
+pub record HasShelved (old new : Shelf LocalState) (before after : List LocalState) (made : LocalState) (more key : ℕ)
+    : Type 0 where
+  pub counts : (k : ℕ) → count new k ≡ count old k + cond (key == k) more 0
+  pub is : value new key ≡ made
+  pub values : (k : ℕ) → 0 < count old k → value new k ≡ value old k
+  pub fresh : (0 < count old key) ⊎ ((k : ℕ) → 0 < count old k → value old k ≡ made → ⊥)
+  pub whole : live new + length after ≡ live old + length before + 1
+  pub capacity : new.capacity ≡ old.capacity
+  pub shaped : (n m : ℕ) → HasShape n m made → All (HasShape n m) before → All (HasShape n m) after
+
 -- the last of a list
 abbrev pub last_of : List LocalState → LocalState
 last_of xs = slice_index_or xs (length xs - 1) no_local
@@ -101,3 +124,8 @@ pub record IsMade (dfa : CompleteDfa) (a : ℕ) (bench : LocalStates) (made : Lo
   pub processes : bench.processes ≡ dfa.alphabet.processes
   pub states : bench.states ≡ dfa.states
   pub transition : IsTransition dfa a bench.locals made
+
+-- the transition of these local states, which is for this automaton
+pub record IsUsable (dfa : CompleteDfa) (a : ℕ) (inputs : List LocalState) (made : LocalState) : Type 0 where
+  pub transition : IsTransition dfa a inputs made
+  pub shape : HasShape dfa.alphabet.processes dfa.states made

@@ -13,7 +13,7 @@ use Rattle.za_table.specs.declared.table.Table.TheInside as Table
 use Rattle.za_table.specs.declared.ended.Ended.TheInside as Ended
 use Rattle.za_table.specs.Tables.{Given, TableState, IsTable, machine_of, label_at}
 use Rattle.za_table.specs.Ends.{EndedState, IsEnded}
-use Rattle.za_table.specs.Private.Steps.{IsProgress}
+use Rattle.za_table.specs.Private.Steps.{IsProgress, AreAllMissing}
 
 abbrev pub given_in : Table.Inside → Given
 given_in t = record { dfa = t.shared.dfa; scripts = t.scripts }
@@ -31,6 +31,7 @@ table_in t = record { given = given_in t; state = state_in t; hands = t.hands.it
 pub record IsTableInside (t : Table.Inside) : Type 0 where
   pub table : IsTable (table_in t)
   pub progress : IsProgress (machine_of (given_in t)) t.progress
+  pub missing : AreAllMissing (machine_of (given_in t)) (state_in t) t.missing.items
 
 abbrev pub ended_in : Ended.Inside → EndedState
 ended_in e = record {

@@ -1,13 +1,17 @@
 -- The lists of a table: at the start, after an event, and what they are for a machine.
-use Rattle.std.specs.Prelude.{◌≡◌, ℕ, ◌+◌, ◌<◌, ◌≤◌, [], ◌∷◌, ◌++◌, List, Some, None, false, length, replicate}
-use Rattle.std.specs.Prelude.{cond, slice_index, slice_index_or, vec_capacity, if◌then◌else◌}
+use Rattle.std.specs.Prelude.{◌≡◌, ℕ, ◌+◌, ◌<◌, ◌≤◌, ◌&&◌, not, [], ◌∷◌, ◌++◌, List, Bool, Option, Some, None, false}
+use Rattle.std.specs.Prelude.{length, replicate, cond, slice_index, slice_index_or, vec_capacity, if◌then◌else◌}
 use Rattle.za_alpha.specs.Words.{has}
 use Rattle.za_alpha.specs.Letters.{numbers}
+use Rattle.za_alpha.specs.declared.procs.Procs.{Procs}
+use Rattle.za_alpha.specs.Procs.{members, no_process}
+use Rattle.za_alpha.specs.Alphabet.{DistributedAlphabet, loc_of}
 use Rattle.za_order.specs.Labels.{label}
 use Rattle.za_script.specs.Scripts.{total}
-use Rattle.za_machine.specs.Machine.{Machine, fired_by, without}
+use Rattle.za_machine.specs.Machine.{Machine, State, fired_by, without, is_in}
 use Rattle.za_table.specs.declared.progress.Progress.{Progress}
 use Rattle.za_table.specs.Tables.{last_event}
+use Rattle.za_table.specs.Answers.{AreMissing}
 
 -- nothing has happened yet, and there is room for so many events
 pub record IsStarted (processes events : ℕ) (p : Progress) : Type 0 where
@@ -50,3 +54,30 @@ pub record IsProgress (m : Machine) (p : Progress) : Type 0 where
       slice_index_or p.latest.items q None ≡ last_event m (numbers p.journal.items) q
   pub journal_room : total m.scripts m.processes ≤ vec_capacity p.journal
   pub labels_room : total m.scripts m.processes ≤ vec_capacity p.labels
+
+-- how many events each process has, who has arrived, and the place of the latest event of each
+pub record Tally : Type 0 where
+  pub counts : List ℕ
+  pub arrived : List Bool
+  pub latest : List (Option ℕ)
+
+-- the first n processes, as far as they are these, have one event more, have not arrived, and have the latest event at
+-- this place
+pub record HasTallied (old new : Tally) (n : ℕ) (ps : List ℕ) (at : ℕ) : Type 0 where
+  pub counts_size : length new.counts ≡ length old.counts
+  pub arrived_size : length new.arrived ≡ length old.arrived
+  pub latest_size : length new.latest ≡ length old.latest
+  pub counts : (p : ℕ) → p < n → slice_index new.counts p ≡ slice_index old.counts p + cond (has ps p) 1 0
+  pub arrived : (p : ℕ) → p < n → is_in new.arrived p ≡ (is_in old.arrived p && not (has ps p))
+  pub latest : (p : ℕ) → p < n →
+      slice_index_or new.latest p None ≡ (if has ps p then Some at else slice_index_or old.latest p None)
+
+-- the processes of the first n letters
+pub record AreLocated (alphabet : DistributedAlphabet) (n : ℕ) (sets : List Procs) : Type 0 where
+  pub size : length sets ≡ n
+  pub each : (a : ℕ) → a < n → members (slice_index_or sets a no_process) ≡ loc_of alphabet a
+
+-- for each letter its processes that have not arrived at it
+pub record AreAllMissing (m : Machine) (c : State) (missing : List Procs) : Type 0 where
+  pub size : length missing ≡ m.letters
+  pub each : (a : ℕ) → a < m.letters → AreMissing m c a (slice_index_or missing a no_process)

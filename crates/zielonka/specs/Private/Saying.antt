@@ -4,14 +4,14 @@ use Rattle.za_alpha.specs.declared.fault.OutOfMemory.{OutOfMemory}
 use Rattle.za_base.specs.Ends.{Ends}
 use Rattle.za_lang.specs.Answers.{data_of}
 use Rattle.za_lang.specs.Jobs.{JobData, IsJob}
-use Rattle.za_lang.specs.Documents.{fault_of, job_of}
 use Rattle.za_min.specs.Minimal.{IsMinimalOf}
 use Rattle.za_table.specs.Ends.{EndedState}
-use Rattle.zielonka.specs.Output.{IsDueFor, IsOutput, given}
+use Rattle.zielonka.specs.Output.{IsDueFor, IsOutput, SubjectData, fault_for, subject_of, given}
 use Rattle.zielonka.specs.Run.{HasRun, HasSaid, ReadAll, WroteNothing}
 use Rattle.zielonka.specs.Shown.{runs_scripts, shown_as, IsClosed, AreClosedJob, IsMadeBy, IsShown}
 use Rattle.zielonka.specs.declared.judging.ClosedJob.{ClosedJob}
 use Rattle.zielonka.specs.declared.judging.Judged.{Judged}
+use Rattle.zielonka.specs.declared.judging.Subject.{Subject}
 use Rattle.zielonka.specs.declared.judging.Judged.TheVariants.{Refused, Ready}
 use Rattle.zielonka.specs.declared.due.Output.{Output}
 use Rattle.zielonka.specs.declared.request.Command.{Command}
@@ -23,6 +23,13 @@ use Rattle.zielonka.specs.declared.status.Outcome.{Outcome}
 use Rattle.zielonka.specs.declared.status.Shown.{Shown}
 use Rattle.zielonka.specs.declared.status.Shown.TheVariants.{Nothing}
 
+-- what a subject says, and what a job says that is ready
+abbrev pub subject_in : Subject → SubjectData
+subject_in subject = record { job = data_of subject.job; claim = subject.claim }
+
+abbrev pub subject_at : ClosedJob → SubjectData
+subject_at it = record { job = data_of it.job; claim = it.claim }
+
 -- it is a job, its language is trace-closed, and the automaton is the minimal one of its language
 pub record IsCompiled (it : ClosedJob) : Type 0 where
   pub job : IsJob (data_of it.job)
@@ -30,16 +37,17 @@ pub record IsCompiled (it : ClosedJob) : Type 0 where
   pub closed : IsClosed (data_of it.job)
 
 -- what a job comes to: it is answered by its two words whatever the command is, or it is ready
-abbrev pub IsJudged : JobData → Judged → Type 0
-IsJudged job (Refused said) =
-    ((command : Command) → IsDueFor command job said.status said.text.items) × ¬ IsClosed job
-IsJudged job (Ready it) = IsCompiled it × (data_of it.job ≡ job)
+abbrev pub IsJudged : SubjectData → Judged → Type 0
+IsJudged subject (Refused said) =
+    ((command : Command) → IsDueFor command subject said.status said.text.items) × ¬ IsClosed subject.job
+IsJudged subject (Ready it) = IsCompiled it × (subject_at it ≡ subject)
 
--- what bytes come to: they are refused whatever the command is, or they are a job that is ready
-abbrev pub AreJudged : List ℕ → Judged → Type 0
-AreJudged bytes (Refused said) =
-    ((command : Command) → IsOutput command bytes said.status said.text.items) × ¬ AreClosedJob bytes
-AreJudged bytes (Ready it) = IsCompiled it × (fault_of bytes ≡ None) × (data_of it.job ≡ job_of bytes)
+-- what bytes come to: they are refused, or they say a job that is ready
+abbrev pub AreJudged : Command → List ℕ → Judged → Type 0
+AreJudged command bytes (Refused said) =
+    IsOutput command bytes said.status said.text.items × ¬ AreClosedJob command bytes
+AreJudged command bytes (Ready it) =
+    IsCompiled it × (fault_for command bytes ≡ None) × (subject_at it ≡ subject_of command bytes)
 
 -- of what the text for a job is made: of a finished run, or of none, where no scripts are to be run
 pub data IsMade (command : Command) (job : JobData) (text : List ℕ) : Shown → Type 0 where
@@ -57,7 +65,7 @@ pub record IsAsked (asked : Request) (old new : Ends) (command : Command) (it : 
   pub bytes : List ℕ
   pub all : ReadAll old new bytes
   pub nothing : WroteNothing old new
-  pub is : AreJudged bytes (Ready it)
+  pub is : AreJudged command bytes (Ready it)
 
 -- how a call begins: it is over, or a job is to be answered
 abbrev pub HasBegun : Request → Ends → Ends → Begun → Type 0

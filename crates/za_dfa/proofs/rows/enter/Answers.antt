@@ -1,7 +1,7 @@
 use Rattle.std.proofs.Common.{◌∙◌, ◌<◌, ◌++◌, ◌∷◌, [], true, false, sym, subst, arith}
 use Rattle.std.proofs.lemmas.Grind.{common_steps}
 use Rattle.za_dfa.specs.Partials.{PartialDfa}
-use Rattle.za_dfa.specs.Private.Entered.{AreEntered}
+use Rattle.za_dfa.specs.Entered.{AreEntered}
 use Rattle.za_dfa.proofs.RowLemmas.{fault_by_other}
 use Rattle.za_dfa.proofs.EnteredLemmas.{other_of_entered, entered_more}
 use Rattle.za_dfa.proofs.rows.enter.Goals as goal

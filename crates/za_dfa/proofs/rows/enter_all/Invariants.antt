@@ -1,7 +1,7 @@
 use Rattle.std.proofs.Common.{◌≡◌, [], take, drop}
 use Rattle.za_dfa.specs.Partials.{IsPartial}
 use Rattle.za_dfa.specs.Rows.{rows_fault}
-use Rattle.za_dfa.specs.Private.Entered.{AreEntered}
+use Rattle.za_dfa.specs.Entered.{AreEntered}
 use Rattle.za_dfa.proofs.rows.enter_all.Given as goal
 
 -- the rows so far are right and entered, so the first fault is that of the rest

@@ -1,6 +1,6 @@
 use Rattle.std.proofs.Common.{[], sym, subst}
 use Rattle.za_dfa.specs.Partials.{PartialDfa}
-use Rattle.za_dfa.specs.Private.Entered.{AreEntered}
+use Rattle.za_dfa.specs.Entered.{AreEntered}
 use Rattle.za_dfa.proofs.EnteredLemmas.{entered_none}
 use Rattle.za_dfa.proofs.rows.partial_of.Goals as goal
 

@@ -1,7 +1,7 @@
 use Rattle.std.proofs.Common.{◌<◌, ◌++◌, ◌∷◌, [], sym, ap, subst, ◌∙◌}
 use Rattle.std.proofs.lemmas.List.Elements.{All-nil, All-push}
 use Rattle.za_alpha.specs.Words.{IsWord}
-use Rattle.za_gen.specs.Drawn.{stepped, draw_of, letter_of, drawn}
+use Rattle.za_gen.specs.Drawn.{stepped, draw_of, letter_drawn, drawn}
 use Rattle.za_gen.proofs.Draws.{register-start, register-more, drawn-start, drawn-more}
 use Rattle.za_gen.proofs.draw.drawn.Goals as goal
 
@@ -20,8 +20,8 @@ loop-preserved c =
     let register = c.stepped-register.ensures ∙ ap stepped c.loop.invariant.register ∙ sym (register-more n i) in
     record {
       register = register;
-      word = c.in_ok-push.ensures.ok ∙ ap (λ w. w ++ c.letter_of.result.0 ∷ []) c.loop.invariant.word
-          ∙ ap (λ x. drawn n i ++ x ∷ []) (c.letter_of.ensures.value ∙ ap (λ s. letter_of (draw_of s)) register) ∙ sym (drawn-more n i);
+      word = c.in_ok-push.ensures.ok ∙ ap (λ w. w ++ c.letter_drawn.result.0 ∷ []) c.loop.invariant.word
+          ∙ ap (λ x. drawn n i ++ x ∷ []) (c.letter_drawn.ensures.value ∙ ap (λ s. letter_drawn (draw_of s)) register) ∙ sym (drawn-more n i);
       letters = subst (IsWord 8) (sym c.in_ok-push.ensures.ok) (All-push
-          (λ a. a < 8) c.loop.word c.letter_of.result.0 c.loop.invariant.letters c.letter_of.ensures.small);
+          (λ a. a < 8) c.loop.word c.letter_drawn.result.0 c.loop.invariant.letters c.letter_drawn.ensures.small);
     }

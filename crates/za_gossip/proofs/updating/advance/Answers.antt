@@ -1,4 +1,4 @@
-use Rattle.std.proofs.Common.{◌≡◌, ℕ, ◌^◌, ◌≤◌, List, [], ◌∷◌, length, map, get_or, Option, None, Vec, Global, refl, sym, ap, subst, ◌∙◌, arith}
+use Rattle.std.proofs.Common.{◌≡◌, ℕ, ◌*◌, ◌^◌, ◌≤◌, List, [], ◌∷◌, length, map, get_or, slice_index, Option, None, Vec, Global, refl, sym, ap, subst, ◌∙◌, arith}
 use Rattle.std.specs.List.{range_with_len}
 use Rattle.std.specs.Vec.{with_items}
 use Rattle.std.proofs.lemmas.List.{length-map, with_items_is}
@@ -6,14 +6,15 @@ use Rattle.za_alpha.specs.Alphabet.{loc_of}
 use Rattle.za_alpha.specs.Words.{has}
 use Rattle.za_order.specs.Locals.{Ids, ids}
 use Rattle.za_order.specs.Labels.{number_of}
-use Rattle.za_order.proofs.Least.{cube}
+use Rattle.za_alpha.specs.Procs.{members}
+use Rattle.za_ids.specs.Columns.{AreInColumns}
 use Rattle.za_ids.specs.declared.ids.EventId.{EventId}
 use Rattle.za_ids.specs.Numbers.{event_numbers}
 use Rattle.za_gossip.specs.Private.Inside.{rows_in}
 use Rattle.za_gossip.specs.declared.gossip.Gossip.TheInside.{Inside}
 use Rattle.za_gossip.specs.declared.gossip.Level.{Level}
 use Rattle.za_gossip.specs.declared.gossip.Level.TheVariants.{Primary, Secondary, Tertiary}
-use Rattle.za_gossip.specs.Rows.{Rows, AreRowsAfter, rows_of}
+use Rattle.za_gossip.specs.Rows.{Rows, AreRowsAfter, rows_of, rows_after}
 use Rattle.za_gossip.specs.Private.Levels.{level_of}
 use Rattle.za_gossip.specs.Updates.{new_label, updated}
 use Rattle.za_gossip.specs.Private.Sources.{IsSource, joined_entry}
@@ -21,23 +22,41 @@ use Rattle.za_gossip.proofs.Updates.{label-after, rows-after}
 use Rattle.za_gossip.proofs.RowsOf.{same-rows}
 use Rattle.za_gossip.proofs.LevelRows.{own_block}
 use Rattle.za_gossip.proofs.Sizes.{items_of, level-size}
-use Rattle.za_gossip.proofs.Inputs.{inputs-some}
+use Rattle.za_gossip.proofs.Columns.{tertiary-column}
+use Rattle.za_gossip.proofs.Inputs.{inputs-some, input-at}
 use Rattle.za_gossip.proofs.Advanced.{length-input, label-found, row-written}
 use Rattle.za_gossip.proofs.updating.advance.Goals as goal
 use Rattle.za_gossip.proofs.updating.advance.Goals.{After-write_row-3}
 
+regrouped : (n : ℕ) → n * (n * n) ≡ n * n * n
+regrouped n = grind (arith)
+
 pub bounds-inputs-0 : goal.bounds-inputs-0
 bounds-inputs-0 c = inputs-some c.args.alphabet.now c.args.a.0 c.processes-n.ensures.whole c.requires.letter c.args.inputs.now c.requires.rows.0 c.requires.rows.1
 
-pub least_free-label-requires-clause-few_numbers : goal.least_free-label-requires-clause-few_numbers
-least_free-label-requires-clause-few_numbers c =
+pub least_free_among-label-requires-clause-numbers : goal.least_free_among-label-requires-clause-numbers
+least_free_among-label-requires-clause-numbers c =
     let n : ℕ = c.args.alphabet.now.processes in
-    let few = inputs-some c.args.alphabet.now c.args.a.0 c.processes-n.ensures.whole c.requires.letter c.args.inputs.now c.requires.rows.0 c.requires.rows.1 in
-    let size = sym (length-map c.entries.result.now (λ (id : EventId). id.0)) ∙ ap length c.entries.ensures.value
+    let some = inputs-some c.args.alphabet.now c.args.a.0 c.processes-n.ensures.whole c.requires.letter c.args.inputs.now c.requires.rows.0 c.requires.rows.1 in
+    sym (length-map c.entries.result.now (λ (id : EventId). id.0)) ∙ ap length c.entries.ensures.value
     ∙ ap (λ (rows : Rows). length rows.tertiary) c.index-inputs-0.is
-    ∙ length-input c.args.alphabet.now c.args.a.0 c.processes-n.ensures.whole c.requires.letter c.args.inputs.now c.requires.rows.0 c.requires.rows.1 Tertiary 0 c.index-inputs-0.result few
-    ∙ sym (cube n) ∙ ap (λ m. m ^ 3) (sym c.processes-n.ensures.value) in
-    omega arith
+    ∙ length-input c.args.alphabet.now c.args.a.0 c.processes-n.ensures.whole c.requires.letter c.args.inputs.now c.requires.rows.0 c.requires.rows.1 Tertiary 0 c.index-inputs-0.result some
+    ∙ regrouped n ∙ ap (λ m. m * m * m) (sym c.processes-n.ensures.value)
+
+pub least_free_among-label-requires-clause-columns : goal.least_free_among-label-requires-clause-columns
+least_free_among-label-requires-clause-columns c =
+    let al = c.args.alphabet.now in
+    let n : ℕ = al.processes in
+    let given = c.requires.rows.1 in
+    let some = inputs-some al c.args.a.0 c.processes-n.ensures.whole c.requires.letter c.args.inputs.now c.requires.rows.0 given in
+    let x : ℕ = get_or (loc_of al c.args.a.0) 0 0 in
+    let row : event_numbers c.entries.result.now ≡ (rows_after (loc_of al) n c.requires.rows.0 x).tertiary =
+    c.entries.ensures.value ∙ ap (λ (rows : Rows). rows.tertiary)
+    (c.index-inputs-0.is ∙ input-at al c.args.a.0 c.processes-n.ensures.whole c.requires.letter c.args.inputs.now c.requires.rows.0 given 0 c.index-inputs-0.result some) in
+    let own : AreInColumns n c.args.a.0 (loc_of al c.args.a.0) (event_numbers c.entries.result.now) = λ j k l h.
+    tertiary-column (loc_of al) n c.processes-n.ensures.whole.some_process c.requires.rows.0 x j c.args.a.0 k l (ap (λ (xs : List ℕ). slice_index xs j) (sym row) ∙ h) in
+    subst (λ (m : ℕ). AreInColumns m c.args.a.0 (members c.loc.result) (event_numbers c.entries.result.now)) (sym c.processes-n.ensures.value)
+    (subst (λ (ps : List ℕ). AreInColumns n c.args.a.0 ps (event_numbers c.entries.result.now)) (ap members (sym c.loc.ensures)) own)
 
 pub write_row-requires-clause-some : goal.write_row-requires-clause-some
 write_row-requires-clause-some c = inputs-some c.args.alphabet.now c.args.a.0 c.processes-n.ensures.whole c.requires.letter c.args.inputs.now c.requires.rows.0 c.requires.rows.1
@@ -71,16 +90,16 @@ write_row-requires-3-clause-rows c = λ k d l.
     omega arith
 
 found : (c : After-write_row-3) (w : List ℕ) → AreRowsAfter c.args.alphabet.now w (loc_of c.args.alphabet.now c.args.a.0) c.args.inputs.now →
-    new_label c.args.alphabet.now.processes (loc_of c.args.alphabet.now c.args.a.0) c.args.a.0 (ids (loc_of c.args.alphabet.now) c.args.alphabet.now.processes w (length w)) ≡ c.least_free-label.result
+    new_label c.args.alphabet.now.processes (loc_of c.args.alphabet.now c.args.a.0) c.args.a.0 (ids (loc_of c.args.alphabet.now) c.args.alphabet.now.processes w (length w)) ≡ c.least_free_among-label.result
 found c w given =
     let row : (get_or c.args.inputs.now 0 c.index-inputs-0.result).tertiary ≡ event_numbers c.entries.result.now = sym (c.entries.ensures.value ∙ ap (λ (rows : Rows). rows.tertiary) c.index-inputs-0.is) in
     let n = c.processes-n.ensures.value in
-    let label : ℕ = c.least_free-label.result in
-    let fits : label ≤ c.processes-n.result ^ 3 = c.least_free-label.ensures.bounded in
+    let label : ℕ = c.least_free_among-label.result in
+    let fits : label ≤ c.processes-n.result ^ 3 = c.least_free_among-label.ensures.bounded in
     label-found c.args.alphabet.now c.args.a.0 c.processes-n.ensures.whole c.requires.letter c.args.inputs.now w given label c.index-inputs-0.result
     (subst (λ m. label ≤ m ^ 3) n fits)
-    (ap (λ r. has r (number_of c.args.alphabet.now.processes c.args.a.0 label)) row ∙ ap (λ m. has (event_numbers c.entries.result.now) (number_of m c.args.a.0 label)) (sym n) ∙ c.least_free-label.ensures.free)
-    (λ j l. ap (λ r. has r (number_of c.args.alphabet.now.processes c.args.a.0 j)) row ∙ ap (λ m. has (event_numbers c.entries.result.now) (number_of m c.args.a.0 j)) (sym n) ∙ c.least_free-label.ensures.least j l)
+    (ap (λ r. has r (number_of c.args.alphabet.now.processes c.args.a.0 label)) row ∙ ap (λ m. has (event_numbers c.entries.result.now) (number_of m c.args.a.0 label)) (sym n) ∙ c.least_free_among-label.ensures.free)
+    (λ j l. ap (λ r. has r (number_of c.args.alphabet.now.processes c.args.a.0 j)) row ∙ ap (λ m. has (event_numbers c.entries.result.now) (number_of m c.args.a.0 j)) (sym n) ∙ c.least_free_among-label.ensures.least j l)
 
 pub returns-clause-label : goal.returns-clause-label
 returns-clause-label c = λ w given.
@@ -114,7 +133,7 @@ module _ (c : After-write_row-3) (w : List ℕ) (given : AreRowsAfter c.args.alp
       let written : event_numbers c.write_row.new.into ≡ map (joined_entry (event_numbers c.as_slice-2.result.now) c.as_slice.result.now (map (level_of Primary) c.args.inputs.now)) (range_with_len 0 (length c.as_mut_slice.result.now)) = c.write_row.ensures in
       let event : c.as_slice-2.result.now ≡ c.id_of.result ∷ [] = c.as_slice-2.ensures in
       written ∙ row Primary (event_numbers c.as_slice-2.result.now) c.as_slice.result.now c.as_mut_slice.result.now c.as_mut_slice.ensures.value c.as_slice.ensures
-      (ap event_numbers event ∙ ap (λ v. v ∷ []) (c.id_of.ensures ∙ ap (λ m. number_of m c.args.a.0 c.least_free-label.result) c.processes-n.ensures.value ∙ ap (number_of n c.args.a.0) (sym (found c w given))))
+      (ap event_numbers event ∙ ap (λ v. v ∷ []) (c.id_of.ensures ∙ ap (λ m. number_of m c.args.a.0 c.least_free_among-label.result) c.processes-n.ensures.value ∙ ap (number_of n c.args.a.0) (sym (found c w given))))
 
   primary-held : (with_items c.into.inside.primary c.write_row.new.into).items ≡ c.write_row.new.into
   primary-held = held c.into.inside.primary Primary c.as_mut_slice.result.now c.write_row.new.into refl c.as_mut_slice.ensures.value c.write_row.auto.into

@@ -2,7 +2,7 @@ use Rattle.std.proofs.Common.{◌≡◌, length}
 use Rattle.std.specs.List.{filter_map}
 use Rattle.za_text.specs.Numbers.{numeral_value}
 use Rattle.za_lang.specs.Namings.{IsLangData}
-use Rattle.za_lang.specs.Private.Gathering.{marked}
+use Rattle.za_lang.specs.Gathering.{marked}
 use Rattle.za_lang.specs.Tests.{accept_line_fault}
 use Rattle.za_lang.proofs.gather.accept_states.Given as goal
 

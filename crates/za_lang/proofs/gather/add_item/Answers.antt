@@ -1,44 +1,32 @@
-use Rattle.std.proofs.Common.{◌≡◌, ◌+◌, ◌≤◌, Some, sym, rules, arith}
-use Rattle.std.proofs.lemmas.Bool.Decides.{nat_tests}
+use Rattle.std.proofs.Common.{◌≡◌, None, Some, sym, subst, ℕ, Option}
+use Rattle.std.specs.Prelude.{MatchResult}
 use Rattle.za_alpha.specs.Alphabet.{place_of}
-use Rattle.za_script.specs.Limits.{most_script_letters}
 use Rattle.za_script.specs.ScriptLists.{total_of}
-use Rattle.za_lang.specs.Answers.{refusal_of_step}
-use Rattle.za_lang.specs.Private.Gathering.{IsWrong}
-use Rattle.za_lang.specs.Tests.{step_fault}
+use Rattle.za_lang.specs.Items.{Item, item_letters, run_of}
+use Rattle.za_lang.specs.Gathering.{AreAdded, IsWrong}
+use Rattle.za_lang.specs.Tests.{item_fault, step_fault}
 use Rattle.za_lang.proofs.Places.{place_within}
-use Rattle.za_lang.proofs.Added.{added_run}
-use Rattle.za_lang.proofs.StepFaults.{step_right, run_right, wrong_run}
+use Rattle.za_lang.proofs.PlainItems.{item_is, letter_item}
 use Rattle.za_lang.proofs.gather.add_item.Goals as goal
 
-pub loc-requires : goal.loc-requires
-loc-requires c = place_within c.args.alphabet.now.letters c.args.item.name.now c.in-Some.a.0 (sym c.in-Some.ensures)
+pub add_letter-requires-clause-letter : goal.add_letter-requires-clause-letter
+add_letter-requires-clause-letter c = place_within c.args.alphabet.now.letters c.args.word.now c.in-Some.a.0 (sym c.in-Some.ensures)
 
-pub add_run-requires-clause-letter : goal.add_run-requires-clause-letter
-add_run-requires-clause-letter c = place_within c.args.alphabet.now.letters c.args.item.name.now c.in-Some.a.0 (sym c.in-Some.ensures)
-
-pub returns : goal.returns
-returns c =
+pub returns-in-Some : goal.returns-in-Some
+returns-in-Some c =
     let alphabet = c.args.alphabet.now in
     let old = c.args.scripts.now in
-    let a = c.in-Some.a.0 in
-    let n = c.in-Some-count.count in
-    let found : place_of alphabet.letters c.args.item.name.now ≡ Some a = sym c.in-Some.ensures in
-    let count : c.args.item.count ≡ Some n = c.in-Some-count.is in
-    let known = place_within alphabet.letters c.args.item.name.now a found in
-    let right = run_right alphabet old c.args.p c.in-Some.a n c.in_ok-add_run.ensures.fault in
-    let full = right.1 in
-    let room : total_of old + n ≤ most_script_letters = grind (arith, nat_tests) in
-    rw (found, count) (step_right alphabet.letters c.args.p (total_of old) a n right.0 right.1, added_run alphabet old c.add_run.new.self c.args.p a n c.requires.process c.requires.limits room known right.0 c.in_ok-add_run.ensures.ok)
-
-pub returns-in_err-add_run : goal.returns-in_err-add_run
-returns-in_err-add_run c =
-    let alphabet = c.args.alphabet.now in
-    let old = c.args.scripts.now in
-    let a = c.in-Some.a.0 in
-    let n = c.in-Some-count.count in
-    let found : place_of alphabet.letters c.args.item.name.now ≡ Some a = sym c.in-Some.ensures in
-    let count : c.args.item.count ≡ Some n = c.in-Some-count.is in
-    let wrong : IsWrong (step_fault alphabet.letters c.args.p (total_of old) (place_of alphabet.letters c.args.item.name.now) c.args.item.count) (refusal_of_step c.in_err-add_run.field-0.0) =
-    rw (found, count) (wrong_run alphabet old c.args.p c.in-Some.a n c.in_err-add_run.field-0.0 c.in_err-add_run.ensures.fault) in
-    search (rules, wrong)
+    let new = c.add_letter.new.scripts in
+    let p = c.args.p in
+    let word = c.args.word.now in
+    let found : place_of alphabet.letters word ≡ Some c.in-Some.a.0 = sym c.in-Some.ensures in
+    let plain = letter_item alphabet c.args.version word c.in-Some.a.0 c.requires.names found in
+    let P : Option ℕ → Type 0 = λ o. MatchResult c.add_letter.result
+    (λ _. (step_fault alphabet.letters p (total_of old) o (Some 1) ≡ None) × AreAdded alphabet old new p (run_of o (Some 1)))
+    (IsWrong (step_fault alphabet.letters p (total_of old) o (Some 1))) in
+    let Q : Item → Type 0 = λ item. MatchResult c.add_letter.result
+    (λ _. (item_fault alphabet.letters p (total_of old) item ≡ None) × AreAdded alphabet old new p (item_letters alphabet.letters item))
+    (IsWrong (item_fault alphabet.letters p (total_of old) item)) in
+    let own : P (Some c.in-Some.a.0) = c.add_letter.ensures in
+    let there : Q (item_is word 1) = subst P c.in-Some.ensures own in
+    subst Q (sym plain) there

@@ -1,10 +1,10 @@
-use Rattle.std.proofs.Common.{◌≡◌, ◌∙◌, ◌+◌, ◌++◌, [], ◌∷◌, List, ℕ, None, Option, ap, sym, refl, subst, arith, append_assoc}
+use Rattle.std.proofs.Common.{◌≡◌, ◌∙◌, ◌+◌, ◌++◌, [], ◌∷◌, None, ap, sym, refl, arith, append_assoc}
 use Rattle.std.specs.Prelude.{unwrap_or}
 use Rattle.std.specs.Option.{option_or}
 use Rattle.za_alpha.specs.Alphabet.{place_of}
 use Rattle.za_script.specs.ScriptLists.{total_of}
 use Rattle.za_lang.specs.Items.{item_of, run_of, letters_of_items}
-use Rattle.za_lang.specs.Private.Gathering.{AreAdded}
+use Rattle.za_lang.specs.Gathering.{AreAdded}
 use Rattle.za_lang.specs.Tests.{step_fault, items_fault}
 use Rattle.za_lang.proofs.Added.{added_none, added_more}
 use Rattle.za_lang.proofs.StepFaults.{step_size}
@@ -26,10 +26,8 @@ loop-word-preserved c =
     let item = item_of v c.in-Some.word.now in
     let o = place_of letters item.name in
     let words : c.loop-word.words ≡ c.in-Some.word.now ∷ rest = c.in-Some.ensures in
-    let P : List ℕ → Option ℕ → Type 0 = λ n k. (step_fault letters p (total_of mid) (place_of letters n) k ≡ None) × AreAdded alphabet mid new p (run_of (place_of letters n) k) in
-    let taken : P item.name item.count = subst (λ k. P item.name k) c.item_of.ensures.count (subst (λ n. P n c.item_of.result.count) c.item_of.ensures.name c.in_ok-add_item.ensures) in
-    let right = taken.0 in
-    let one = taken.1 in
+    let right : step_fault letters p (total_of mid) o item.count ≡ None = c.in_ok-add_item.ensures.0 in
+    let one : AreAdded alphabet mid new p (run_of o item.count) = c.in_ok-add_item.ensures.1 in
     let size : total_of mid + unwrap_or item.count 0 ≡ total_of new = let t = one.total in let n = step_size letters p (total_of mid) o item.count right in omega arith in
     let before = c.loop-word.invariant.added.0 in
     let had = c.loop-word.invariant.added.1 in

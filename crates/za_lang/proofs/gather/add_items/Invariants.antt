@@ -1,7 +1,7 @@
 use Rattle.std.proofs.Common.{◌≡◌, ◌++◌, List, ℕ, length}
 use Rattle.za_script.specs.ScriptLists.{total_of}
 use Rattle.za_lang.specs.Items.{letters_of_items}
-use Rattle.za_lang.specs.Private.Gathering.{AreAdded}
+use Rattle.za_lang.specs.Gathering.{AreAdded}
 use Rattle.za_lang.specs.Tests.{items_fault}
 use Rattle.za_lang.proofs.gather.add_items.Given as goal
 

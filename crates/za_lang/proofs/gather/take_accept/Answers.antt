@@ -2,7 +2,7 @@ use Rattle.std.proofs.Common.{◌∙◌, ap, sym, subst}
 use Rattle.za_lang.specs.Answers.{data_of}
 use Rattle.za_lang.specs.Namings.{LangData}
 use Rattle.za_lang.specs.Tests.{accept_line_fault}
-use Rattle.za_lang.specs.Private.Gathering.{more_said, Tells}
+use Rattle.za_lang.specs.Gathering.{more_said, Tells}
 use Rattle.za_lang.specs.declared.order.Head.TheVariants as head
 use Rattle.za_lang.proofs.Telling.{accept_told}
 use Rattle.za_lang.proofs.gather.take_accept.Goals as goal

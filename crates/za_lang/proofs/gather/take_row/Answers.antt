@@ -1,7 +1,7 @@
 use Rattle.std.proofs.Common.{◌≡◌, ◌∙◌, ◌++◌, ◌∷◌, [], cond, Some, None, ap, sym, subst, rules}
 use Rattle.za_text.specs.declared.kind.Kind.TheVariants.{TwoTargets}
 use Rattle.za_dfa.specs.declared.rows.Row.{Row}
-use Rattle.za_dfa.specs.Private.Entered.{AreEntered}
+use Rattle.za_dfa.specs.Entered.{AreEntered}
 use Rattle.za_dfa.proofs.EnteredLemmas.{other_of_entered, entered_more}
 use Rattle.za_lang.specs.Namings.{LangData}
 use Rattle.za_lang.specs.Tests.{row_line_fault}

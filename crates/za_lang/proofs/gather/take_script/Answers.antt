@@ -7,7 +7,7 @@ use Rattle.za_lang.specs.declared.order.Head.TheVariants as head
 use Rattle.za_lang.specs.declared.version.Version.{Version}
 use Rattle.za_lang.specs.Items.{letters_of_items}
 use Rattle.za_lang.specs.Namings.{Naming}
-use Rattle.za_lang.specs.Private.Gathering.{more_said, AreAdded, Tells}
+use Rattle.za_lang.specs.Gathering.{more_said, AreAdded, Tells}
 use Rattle.za_lang.specs.Tests.{items_fault, script_items_fault, script_line_fault, process_at, process_fault, process_meant, process_wrong}
 use Rattle.za_lang.proofs.Added.{added_fit}
 use Rattle.za_lang.proofs.Telling.{script_told}

@@ -1,7 +1,7 @@
 use Rattle.std.proofs.Common.{refl, sym, subst}
 use Rattle.za_lang.specs.declared.order.Head.TheVariants as head
-use Rattle.za_lang.specs.Private.Gathering.{more_said, Tells}
-use Rattle.za_lang.specs.Private.Reading.{letters_told, naming_of}
+use Rattle.za_lang.specs.Gathering.{more_said, Tells}
+use Rattle.za_lang.specs.Reading.{letters_told, naming_of}
 use Rattle.za_lang.proofs.Opening.{blank_told}
 use Rattle.za_lang.proofs.letters.after_letters.Goals as goal
 

@@ -4,7 +4,7 @@ use Rattle.std.specs.List.{filter_map}
 use Rattle.za_alpha.specs.Words.{has}
 use Rattle.za_alpha.specs.Procs.{members, with_process}
 use Rattle.za_lang.specs.Tests.{loc_fault, process_at}
-use Rattle.za_lang.specs.Private.Reading.{naming_of}
+use Rattle.za_lang.specs.Reading.{naming_of}
 use Rattle.za_lang.proofs.letters.procs_said.Given as goal
 
 abbrev pub invariant-loop-word : goal.invariant-loop-word

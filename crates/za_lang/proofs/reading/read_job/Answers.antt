@@ -6,8 +6,8 @@ use Rattle.za_lang.specs.declared.reading.Reading.TheVariants as reading
 use Rattle.za_text.specs.Words.{words_of}
 use Rattle.za_lang.specs.Answers.{data_of, IsRefused}
 use Rattle.za_lang.specs.Documents.{said, end_fault, version_by, version_of, words_in}
-use Rattle.za_lang.specs.Private.Reading.{nothing, IsReading, Keeps, Awaits}
-use Rattle.za_lang.specs.Private.Gathering.{more}
+use Rattle.za_lang.specs.Reading.{nothing, IsReading, Keeps, Awaits}
+use Rattle.za_lang.specs.Gathering.{more}
 use Rattle.za_lang.proofs.Faults.{begins, goes_on, stops, ends}
 use Rattle.za_lang.proofs.Saying.{said_none, said_version}
 use Rattle.za_lang.proofs.Whole.{told_whole}
@@ -27,15 +27,15 @@ lines-preserved c =
     let s = said v (take n all) in
     let line = raw c.in-Some.line in
     let left = lines_of c.next.new.self.rest in
-    let reading = c.in-Ok.reading in
+    let reading = c.take.new.self in
     let is : s.naming.version ≡ v = said_version v (take n all) in
     let awaits = subst (λ u. Awaits c.lines.reading (version_by (version_of left) (words_of line.text)) u) (sym is)
     (subst (λ ls. Awaits c.lines.reading (version_of ls) v) c.in-Some.ensures.first c.lines.invariant.awaits) in
-    let taken = c.in-Ok.ensures.taken s (version_of left) c.lines.invariant.shows awaits in
+    let taken = c.in_default-take.ensures.taken s (version_of left) c.lines.invariant.shows awaits in
     let on = goes_on v all n c.next.new.self.passed (lines_of c.lines.lines.rest) line left c.lines.invariant.read c.in-Some.ensures.first taken.0 c.in-Some.ensures.passed in
     record {
       read = on.0;
-      whole = c.in-Ok.ensures.whole;
+      whole = c.in_default-take.ensures.whole;
       shows = subst (Keeps reading) (sym on.1) (subst (λ u. Keeps reading (more s (words_in u line))) is taken.1);
       awaits = subst (λ u. Awaits reading (version_of left) u) is taken.2;
     }

@@ -1,7 +1,7 @@
 use Rattle.std.proofs.Common.{length, take}
 use Rattle.za_text.specs.Lines.{lines_of}
 use Rattle.za_lang.specs.Documents.{said, version_of}
-use Rattle.za_lang.specs.Private.Reading.{IsReading, Keeps, Awaits}
+use Rattle.za_lang.specs.Reading.{IsReading, Keeps, Awaits}
 use Rattle.za_lang.proofs.Faults.{AreRead}
 use Rattle.za_lang.proofs.reading.read_job.Given as goal
 

@@ -16,7 +16,7 @@ returns-clause-answered c =
     let text : c.in_ok-text.text.items ≡ check_text job.lang.alphabet d.states cache =
     c.in_ok-text.ensures ∙ ap (λ (a : DistributedAlphabet). check_text a c.states.result cache) c.alphabet.ensures
     ∙ ap (λ n. check_text job.lang.alphabet n cache) (c.states.ensures.value ∙ ap (λ (e : CompleteDfa). e.states) c.dfa.ensures.value) in
-    subst (λ (t : List ℕ). IsAnswered job (Check cache) 0 t) (sym text) (Checked cache d c.requires.minimal)
+    subst (λ (t : List ℕ). IsAnswered job c.args.it.now.claim (Check cache) 0 t) (sym text) (Checked cache d c.requires.minimal)
 
 pub returns-clause-made : goal.returns-clause-made
 returns-clause-made c = OfNone refl

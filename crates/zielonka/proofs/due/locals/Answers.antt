@@ -12,7 +12,7 @@ returns-clause-answered c =
     let job = data_of c.args.it.now.job in
     let d = c.args.it.now.closed in
     let text = c.in_ok-text.ensures ∙ ap (locals_text d) c.in_ok-ended.ensures.journal in
-    subst (λ (t : List ℕ). IsAnswered job (Locals c.args.cache) 0 t) (sym text) (Told c.args.cache d c.requires.minimal)
+    subst (λ (t : List ℕ). IsAnswered job c.args.it.now.claim (Locals c.args.cache) 0 t) (sym text) (Told c.args.cache d c.requires.minimal)
 
 pub returns-clause-made : goal.returns-clause-made
 returns-clause-made c =

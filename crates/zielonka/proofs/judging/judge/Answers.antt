@@ -1,7 +1,6 @@
 use Rattle.std.proofs.Common.{List, ℕ, sym, subst}
-use Rattle.za_lang.specs.Answers.{data_of}
 use Rattle.zielonka.specs.Output.{IsOutput, Refused}
-use Rattle.zielonka.specs.Private.Saying.{AreJudged, IsJudged}
+use Rattle.zielonka.specs.Private.Saying.{AreJudged, IsJudged, subject_in}
 use Rattle.zielonka.proofs.DueLemmas.{ok_map}
 use Rattle.zielonka.proofs.JudgedLemmas.{judged-bytes}
 use Rattle.zielonka.proofs.OneOutput.{not-read}
@@ -9,12 +8,14 @@ use Rattle.zielonka.proofs.judging.judge.Goals as goal
 
 pub returns-in-Ok : goal.returns-in-Ok
 returns-in-Ok c =
-    ok_map c.judge_job.result (IsJudged (data_of c.in-Ok.job)) (AreJudged c.args.bytes.now)
-    (λ judged. judged-bytes c.args.bytes.now (data_of c.in-Ok.job) judged c.in-Ok.ensures.answer.0 c.in-Ok.ensures.answer.1 c.in-Ok.ensures.job) c.judge_job.ensures
+    let subject = subject_in c.in-Ok.subject in
+    let read = c.in-Ok.ensures in
+    ok_map c.judge_subject.result (IsJudged subject) (AreJudged c.args.command c.args.bytes.now)
+    (λ judged. judged-bytes c.args.command c.args.bytes.now subject judged read.answer.0 read.answer.1 read.job) c.judge_subject.ensures
 
 pub returns-in_ok-refused_text-in-Text : goal.returns-in_ok-refused_text-in-Text
 returns-in_ok-refused_text-in-Text c = (
-  λ command. subst (λ (t : List ℕ). IsOutput command c.args.bytes.now 4 t) (sym c.in_ok-refused_text-in-Text.ensures)
+  subst (λ (t : List ℕ). IsOutput c.args.command c.args.bytes.now 4 t) (sym c.in_ok-refused_text-in-Text.ensures)
       (Refused c.in-Text.fault (rw c.in-Text.is at c.in-Err.ensures.answer)),
-  λ are. not-read c.args.bytes.now c.in-Text.fault (rw c.in-Text.is at c.in-Err.ensures.answer) are.read,
+  λ are. not-read c.args.command c.args.bytes.now c.in-Text.fault (rw c.in-Text.is at c.in-Err.ensures.answer) are.read,
 )

@@ -1,4 +1,4 @@
-use Rattle.zielonka.proofs.Causes.{usage, words_decide, not_built, words_decide_not_built, words_decide_job, job_completes, read_fault, write_fault, counts, too_long, too_many_decide, too_many_complete, no_memory, all_read, known, completes}
+use Rattle.zielonka.proofs.Causes.{usage, words_decide, words_decide_job, job_completes, read_fault, write_fault, counts, too_long, too_many_decide, too_many_complete, no_memory, all_read, known, completes}
 use Rattle.zielonka.proofs.laws.statuses_have_their_causes.Goals as goal
 
 pub returns-clause-usage : goal.returns-clause-usage
@@ -6,12 +6,6 @@ returns-clause-usage c = usage
 
 pub returns-clause-words : goal.returns-clause-words
 returns-clause-words c = words_decide
-
-pub returns-clause-not_built : goal.returns-clause-not_built
-returns-clause-not_built c = not_built
-
-pub returns-clause-words_not_built : goal.returns-clause-words_not_built
-returns-clause-words_not_built c = words_decide_not_built
 
 pub returns-clause-words_job : goal.returns-clause-words_job
 returns-clause-words_job c = words_decide_job

@@ -1,7 +1,7 @@
 use Rattle.std.proofs.Common.{sym, ◌∙◌, refl}
-use Rattle.zielonka.specs.Output.{usage_text, not_built_text}
-use Rattle.zielonka.specs.Run.{Usage, NotBuilt, NoMemory}
-use Rattle.zielonka.proofs.Causes.{usage-not-read, more-not-read}
+use Rattle.zielonka.specs.Output.{usage_text}
+use Rattle.zielonka.specs.Run.{Usage, NoMemory}
+use Rattle.zielonka.proofs.Causes.{usage-not-read}
 use Rattle.zielonka.proofs.RunLemmas.{took-nothing}
 use Rattle.zielonka.proofs.ShownLemmas.{none-by-request, ended-silent, ended-telling, ended-job}
 use Rattle.zielonka.proofs.run.begin.Goals as goal
@@ -14,13 +14,6 @@ returns-in-Ok-Usage g c =
     let asks = sym c.in-Ok-Usage.ensures ∙ c.in-Ok-Usage.field-0-is in
     ended-telling _ _ _ _ 2 usage_text (Usage asks (refl, refl)) c.tell.ensures.said c.tell.ensures.shown
     (none-by-request _ _ _ _ (λ command reads. usage-not-read command asks reads))
-
-pub returns-in-Ok-NotBuilt : goal.returns-in-Ok-NotBuilt
-returns-in-Ok-NotBuilt g c =
-    let asks = sym c.in-Ok-NotBuilt.ensures ∙ c.in-Ok-NotBuilt.field-0-is in
-    let told = c.tell-in-Ok-NotBuilt.ensures in
-    ended-telling _ _ _ _ 10 not_built_text (NotBuilt asks (refl, refl)) told.said told.shown
-    (none-by-request _ _ _ _ (λ command reads. more-not-read command asks reads))
 
 pub returns-in-Err-job_of : goal.returns-in-Err-job_of
 returns-in-Err-job_of g c =

@@ -1,6 +1,14 @@
 use Rattle.std.proofs.Common.{refl}
-use Rattle.zielonka.proofs.ShownLemmas.{ended-by}
+use Rattle.std.specs.Prelude.{map, string_bytes}
+use Rattle.zielonka.proofs.RequestLemmas.{plain-alone}
+use Rattle.zielonka.proofs.ShownLemmas.{claim-there, ended-by}
 use Rattle.zielonka.proofs.run.plain.Goals as goal
+
+pub answer_alone-requires-clause-alone : goal.answer_alone-requires-clause-alone
+answer_alone-requires-clause-alone g c = plain-alone (map string_bytes c.args.words.now) c.in-Asked.command c.in-Asked.ensures.asks
+
+pub answer_alone-requires-clause-claim : goal.answer_alone-requires-clause-claim
+answer_alone-requires-clause-claim g c = claim-there c.in-Asked.command c.in-Asked.ensures.bytes c.in-Asked.it c.in-Asked.ensures.is.2
 
 pub returns-in-Asked-clause-ran : goal.returns-in-Asked-clause-ran
 returns-in-Asked-clause-ran g c =

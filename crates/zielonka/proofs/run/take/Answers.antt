@@ -31,9 +31,9 @@ pub returns-in-Ok-Refused : goal.returns-in-Ok-Refused
 returns-in-Ok-Refused g c =
     let said = c.in-Ok-Refused.said in
     let text = c.as_slice-in-Ok-Refused.result.now in
-    let judged = rw c.in-Ok-Refused.field-0-is at (subst (λ b. AreJudged b c.in-Ok-Refused.field-0) c.as_slice.ensures.value c.in-Ok-Refused.ensures) in
+    let judged = rw c.in-Ok-Refused.field-0-is at (subst (λ b. AreJudged c.args.command b c.in-Ok-Refused.field-0) c.as_slice.ensures.value c.in-Ok-Refused.ensures) in
     let told = c.tell-in-Ok-Refused.ensures in
     ended-telling _ _ _ _ said.status text
     (Said c.args.command c.in-Ok.bytes.items said.status text refl c.in-Ok.ensures
-    (subst (λ (t : List ℕ). IsOutput c.args.command c.in-Ok.bytes.items said.status t) (sym c.as_slice-in-Ok-Refused.ensures.value) (judged.0 c.args.command)))
-    told.said told.shown (none-by-bytes _ _ _ _ c.in-Ok.bytes.items c.in-Ok.ensures judged.1)
+    (subst (λ (t : List ℕ). IsOutput c.args.command c.in-Ok.bytes.items said.status t) (sym c.as_slice-in-Ok-Refused.ensures.value) judged.0))
+    told.said told.shown (none-by-bytes _ _ _ _ c.args.command c.in-Ok.bytes.items refl c.in-Ok.ensures judged.1)

@@ -62,6 +62,7 @@ invariant_of-self c =
       room = c.self.invariant.room;
       processes = ap (λ (b : LocalStates). b.processes) c.gather.ensures ∙ c.self.invariant.processes;
       states = ap (λ (b : LocalStates). b.states) c.gather.ensures ∙ c.self.invariant.states;
+      marks = c.self.invariant.marks;
     }
 
 pub returns-clause-some : goal.returns-clause-some

@@ -48,6 +48,7 @@ invariant_of-self c =
       room = c.self.invariant.room;
       processes = c.self.invariant.processes;
       states = c.self.invariant.states;
+      marks = c.self.invariant.marks;
     }
 
 pub returns-clause-some : goal.returns-clause-some

@@ -4,6 +4,7 @@ use Rattle.za_local.specs.Locals.{HasShape}
 use Rattle.za_shared.specs.Records.{Records, AreRecords}
 use Rattle.za_shared.specs.Private.Inside.{records_in}
 use Rattle.za_shared.proofs.Carrying.{carried, count-one}
+use Rattle.za_shared.proofs.Marking.{marked-on}
 use Rattle.za_shared.proofs.Vectors.{written}
 use Rattle.za_shared.proofs.shared.SharedLocals.hand_over.Goals as goal
 
@@ -42,4 +43,6 @@ invariant_of-self c =
       room = let a = c.self.invariant.room in let b = c.give.ensures.capacity in let d = c.let_go.ensures.capacity in omega arith;
       processes = c.self.invariant.processes;
       states = c.self.invariant.states;
+      marks = marked-on r.shelf c.let_go.new.shelf c.self.inside.marks.items (λ k h. one'.none_new k (let b = two.counts k in omega arith))
+          (λ k h. two.values k h ∙ one'.values k (let b = two.counts k in omega arith)) c.self.invariant.marks;
     }

@@ -9,6 +9,7 @@ use Rattle.za_shared.specs.Private.Inside.{AreRecordsInside, records_in, lines_o
 use Rattle.za_shared.proofs.Carrying.{carried, names, count-one}
 use Rattle.za_shared.proofs.LineLists.{promoted-none, split-found, count-promoted, length-promoted, all-promoted}
 use Rattle.za_shared.proofs.Steps.{line-live, more-old}
+use Rattle.za_shared.proofs.Marking.{marked-on}
 use Rattle.za_shared.proofs.shared.SharedLocals.recall.Goals as goal
 use Rattle.za_shared.proofs.shared.SharedLocals.recall.Goals.{In_default-find}
 
@@ -24,7 +25,7 @@ pub invariant_of-self-in_default-find : goal.invariant_of-self-in_default-find
 invariant_of-self-in_default-find c =
     let i = c.self.inside in
     subst (λ (o : Option Lines). AreRecordsInside
-    (record { closed = i.closed; shelf = i.shelf; spares = i.spares; own = i.own; keys = i.keys; rows = o; bench = i.bench }))
+    (record { closed = i.closed; shelf = i.shelf; spares = i.spares; own = i.own; keys = i.keys; rows = o; bench = i.bench; marks = i.marks }))
     (sym (same c)) c.self.invariant
 
 pub returns-in_default-find : goal.returns-in_default-find
@@ -34,7 +35,7 @@ returns-in_default-find c =
       ap (λ (r : Records). lookup test r.lines) (sym c.self.view_is) ∙ ap (λ (o : Option Lines). lookup test (lines_of_rows o)) c.in-Some.is
           ∙ sym c.find.ensures.found ∙ c.in_default-find.is,
       ap (λ (o : Option Lines). records_in
-          (record { closed = i.closed; shelf = i.shelf; spares = i.spares; own = i.own; keys = i.keys; rows = o; bench = i.bench })) (same c) ∙ c.self.view_is,
+          (record { closed = i.closed; shelf = i.shelf; spares = i.spares; own = i.own; keys = i.keys; rows = o; bench = i.bench; marks = i.marks })) (same c) ∙ c.self.view_is,
     )
 
 pub hold-requires-clause-live : goal.hold-requires-clause-live
@@ -75,4 +76,6 @@ invariant_of-self-2 c =
       room = let a = c.self.invariant.room in subst (λ (m : ℕ). bound r.dfa.alphabet.processes m ≤ vec_capacity c.self.inside.spares) (sym cache) a;
       processes = c.self.invariant.processes;
       states = c.self.invariant.states;
+      marks = marked-on r.shelf c.hold.new.shelf c.self.inside.marks.items (more-old r.shelf c.hold.new.shelf key more (line-live r ok test key found))
+          (λ k h. more.values k) c.self.invariant.marks;
     }

@@ -8,7 +8,8 @@ use Rattle.za_shared.specs.Holders.{value, is_named}
 use Rattle.za_shared.specs.Records.{Records, IsLine, IsTransition, bound}
 use Rattle.za_shared.specs.Private.Inside.{records_in, lines_of_rows, cache_in}
 use Rattle.za_shared.proofs.Carrying.{count-one}
-use Rattle.za_shared.proofs.Remembering.{remembered, kept-few}
+use Rattle.za_shared.proofs.Marking.{marked-on}
+use Rattle.za_shared.proofs.Remembering.{remembered, remembered-old, kept-few}
 use Rattle.za_shared.proofs.shared.SharedLocals.remember.Goals as goal
 
 pub invariant_of-self-2 : goal.invariant_of-self-2
@@ -47,4 +48,9 @@ invariant_of-self-2 c =
           (λ (m : ℕ). bound r.dfa.alphabet.processes m ≤ vec_capacity i.spares) (cache ∙ sym few.1) c.self.invariant.room in omega arith;
       processes = c.self.invariant.processes;
       states = c.self.invariant.states;
+      marks = marked-on r.shelf c.let_go_kept.new.shelf i.marks.items
+          (remembered-old r ok c.hold_line.new.shelf c.let_go_kept.new.shelf c.let_go_kept.new.spares.items
+          (line_key c.args.a.0 inputs, output) c.in-Some.rows c.keep-kept.new.self c.keep-kept.result rows cache
+          c.hold_line.ensures c.keep-kept.ensures live c.let_go_kept.ensures.fewer)
+          (λ k h. c.let_go_kept.ensures.fewer.values k h ∙ c.hold_line.ensures.values k) c.self.invariant.marks;
     }

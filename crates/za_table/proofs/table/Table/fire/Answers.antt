@@ -1,5 +1,6 @@
 use Rattle.std.proofs.Common.{◌≡◌, true, sym, ap, subst, ◌∙◌, arith}
 use Rattle.za_alpha.specs.Words.{has}
+use Rattle.za_alpha.specs.Procs.{members}
 use Rattle.za_alpha.specs.Alphabet.{loc_of}
 use Rattle.za_dfa.specs.Tables.{CompleteDfa}
 use Rattle.za_machine.specs.Machine.{IsAllowed, Fire}
@@ -7,12 +8,15 @@ use Rattle.za_machine.specs.Hands.{hand}
 use Rattle.za_table.specs.Tables.{TableState, machine_of}
 use Rattle.za_table.specs.Private.Inside.{given_in, state_in, table_in}
 use Rattle.za_table.proofs.Keeping.{happens}
-use Rattle.za_table.proofs.Firing.{room, counts-le, table-after, progress-after}
+use Rattle.za_table.proofs.Firing.{room, counts-le, table-after, progress-after, missing-after}
 use Rattle.za_table.proofs.table.Table.fire.Goals as goal
 use Rattle.za_table.proofs.table.Table.fire.Goals.{After-participants-participants}
 
 allowed : (c : After-participants-participants) → IsAllowed (machine_of (given_in c.self.inside)) (state_in c.self.inside) (Fire c.args.a.0)
 allowed c = subst (λ (x : TableState). IsAllowed (machine_of x.given) x.state (Fire c.args.a.0)) (sym c.self.view_is) c.requires.allowed
+
+participants : (c : After-participants-participants) → members c.participants-participants.result ≡ loc_of c.self.inside.shared.dfa.alphabet c.args.a.0
+participants c = c.participants-participants.ensures ∙ ap (λ (x : TableState). loc_of x.given.dfa.alphabet c.args.a.0) (sym c.self.view_is)
 
 pub append-requires-clause-journal : goal.append-requires-clause-journal
 append-requires-clause-journal c =
@@ -45,4 +49,6 @@ invariant_of-self c =
     record {
       table = table-after t ok a (allowed k) t.hands.items moved c.fire.new.self c.append.new.progress c.fire.ensures.fired c.fire.ensures.records c.append.ensures.appended;
       progress = progress-after t ok a (allowed k) t.hands.items moved c.fire.new.self c.append.new.progress c.fire.ensures.fired c.fire.ensures.records c.append.ensures.appended;
+      missing = missing-after t ok a (allowed k) t.hands.items moved c.fire.new.self c.append.new.progress c.fire.ensures.fired c.fire.ensures.records c.append.ensures.appended
+          c.participants-participants.result (participants k);
     }

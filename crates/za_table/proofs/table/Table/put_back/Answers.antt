@@ -11,4 +11,5 @@ invariant_of-self c =
     record {
       table = puts_back (table_in c.self.inside) ok.table c.args.a.0 c.requires.0 (ap (λ (x : TableState). hand x.hands c.args.a.0) c.self.view_is ∙ c.requires.1);
       progress = ok.progress;
+      missing = ok.missing;
     }

@@ -1,5 +1,6 @@
 use Rattle.std.proofs.Common.{◌≡◌, true, Some, None, slice_set, sym, ap, subst, ◌∙◌, arith}
 use Rattle.za_alpha.specs.Words.{has}
+use Rattle.za_alpha.specs.Procs.{members}
 use Rattle.za_alpha.specs.Alphabet.{loc_of}
 use Rattle.za_dfa.specs.Tables.{CompleteDfa}
 use Rattle.za_machine.specs.Machine.{IsAllowed, Fire}
@@ -8,7 +9,7 @@ use Rattle.za_shared.specs.Records.{IsTransition}
 use Rattle.za_table.specs.Tables.{TableState, machine_of}
 use Rattle.za_table.specs.Private.Inside.{given_in, state_in, table_in}
 use Rattle.za_table.proofs.Keeping.{settled}
-use Rattle.za_table.proofs.Firing.{room, counts-le, table-after, progress-after}
+use Rattle.za_table.proofs.Firing.{room, counts-le, table-after, progress-after, missing-after}
 use Rattle.za_table.proofs.table.Table.settle.Goals as goal
 use Rattle.za_table.proofs.table.Table.settle.Goals.{After-participants-participants}
 
@@ -20,6 +21,9 @@ allowed c = let i = c.self.invariant.table.in_hand.each c.args.a.0 c.args.by (he
 
 pub settle-requires-clause-made : goal.settle-requires-clause-made
 settle-requires-clause-made c = subst (λ (x : TableState). IsTransition x.given.dfa c.args.a.0 c.args.bench.now.locals c.args.made.now) (sym c.self.view_is) c.requires.made
+
+participants : (c : After-participants-participants) → members c.participants-participants.result ≡ loc_of c.self.inside.shared.dfa.alphabet c.args.a.0
+participants c = c.participants-participants.ensures ∙ ap (λ (x : TableState). loc_of x.given.dfa.alphabet c.args.a.0) (sym c.self.view_is)
 
 pub append-requires-clause-journal : goal.append-requires-clause-journal
 append-requires-clause-journal c =
@@ -53,4 +57,6 @@ invariant_of-self c =
     record {
       table = table-after t ok a (allowed k) hands moved c.settle.new.self c.append.new.progress c.settle.ensures.fired c.settle.ensures.records c.append.ensures.appended;
       progress = progress-after t ok a (allowed k) hands moved c.settle.new.self c.append.new.progress c.settle.ensures.fired c.settle.ensures.records c.append.ensures.appended;
+      missing = missing-after t ok a (allowed k) hands moved c.settle.new.self c.append.new.progress c.settle.ensures.fired c.settle.ensures.records c.append.ensures.appended
+          c.participants-participants.result (participants k);
     }

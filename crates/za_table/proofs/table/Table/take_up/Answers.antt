@@ -22,6 +22,7 @@ invariant_of-self c =
     record {
       table = takes_up (table_in c.self.inside) ok.table c.args.a.0 c.args.by (own k) (ap (λ (x : TableState). hand x.hands c.args.a.0) c.self.view_is ∙ c.requires.free);
       progress = ok.progress;
+      missing = ok.missing;
     }
 
 pub returns-clause-locals : goal.returns-clause-locals

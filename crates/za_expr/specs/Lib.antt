@@ -1,0 +1,5 @@
+pub mod Expressions
+pub mod Documents
+pub mod Built
+pub mod Laws
+pub mod Private

@@ -1,0 +1,12 @@
+//! Documents with an expression in place of a table, and the jobs that are built from them.
+#![tactic(auto)]
+
+mod document;
+mod expression;
+mod laws;
+mod reading;
+#[cfg(test)]
+mod tests;
+
+pub use document::build;
+pub use laws::texts_have_one_fault;

@@ -1,0 +1,4 @@
+pub mod Frozen
+pub mod Thawing
+pub mod Laws
+pub mod Private

@@ -1,0 +1,3 @@
+pub mod Hopes
+pub mod Jobs
+pub mod Laws

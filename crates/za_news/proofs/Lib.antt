@@ -1,0 +1,5 @@
+pub mod Adding
+pub mod Following
+pub mod Knowing
+pub mod Lines
+mod Examples

@@ -1,0 +1,5 @@
+pub mod Readings
+pub mod Grammar
+pub mod NewsTexts
+pub mod Texts
+pub mod Private

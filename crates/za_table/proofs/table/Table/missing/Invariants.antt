@@ -1,9 +1,0 @@
-use Rattle.std.proofs.Common.{◌≡◌, ℕ, ◌&&◌, not, nat_lt}
-use Rattle.za_alpha.specs.Words.{has}
-use Rattle.za_alpha.specs.Procs.{members}
-use Rattle.za_table.specs.Tables.{machine_of}
-use Rattle.za_table.specs.Answers.{waits_at}
-use Rattle.za_table.proofs.table.Table.missing.Given as goal
-
-abbrev pub invariant-loop-p : goal.invariant-loop-p
-invariant-loop-p l = (q : ℕ) → has (members l.missing) q ≡ (nat_lt q l.p && (has (members l.participants) q && not (waits_at (machine_of l.self.given) l.self.state l.a.0 q)))

@@ -1,0 +1,181 @@
+//! Journals, and what `audit` says of them and of other claims.
+
+use super::*;
+use crate::tests::{APART, Ran, Run, TWO, assert_said, is_set_in_time, run_top, shown};
+use std::alloc::Global;
+use std::process::Abort;
+use std::sync::Wait;
+use std::sync::atomic::AtomicU64;
+use std::sync::atomic::Ordering::SeqCst;
+use std::test::Fail;
+use std::thread::Threads;
+use za_gen::job_of;
+
+/// Each `b` follows an `a`, and each `a` a `b`: `a b` is accepted, and `b a` is not.
+const OPEN: &str = "zla 1\nprocesses 2\nletter a 0\nletter b 1\nstates 2\nstart 0\naccept 0\n\
+    row 0 a 1\nrow 1 b 0\nend\n";
+
+/// The job of two in version 2.
+const NAMED: &str = "zla 2\n# two sides\nprocesses left right\nletter a left\nletter b right\n\
+    letter c left right\nstates 2\nstart 0\naccept 0\nrow 0 a 1\nrow 0 b 0\nrow 0 c 0\n\
+    row 1 a 0\nrow 1 b 1\nrow 1 c 1\nscript left a c a\nscript right b c\nend\n# the end\n";
+
+/// A document, a claim about its job, the status, and what is written.
+type Case = (&'static str, &'static str, u8, &'static str);
+
+const CLAIMS: [Case; 12] = [
+    (
+        TWO,
+        "claim accept\nfire b.0\nfire a.0\nfire c.0\nfire a.0\nend\n",
+        0,
+        "audit yes\n",
+    ),
+    (
+        TWO,
+        "claim accept\nfire b.0\nfire a.0\nfire c.0\nfire a.1\nend\n",
+        1,
+        "audit bad label 3\n",
+    ),
+    (
+        TWO,
+        "claim accept\nfire c.0\nend\n",
+        1,
+        "audit bad letter 0\n",
+    ),
+    (
+        TWO,
+        "claim accept\nfire a.0\nfire b.0\nfire c.0\nend\n",
+        1,
+        "audit not maximal a\n",
+    ),
+    (
+        TWO,
+        "claim reject\nfire b.0\nfire a.0\nfire c.0\nfire a.0\nend\n",
+        1,
+        "audit wrong answer accept\n",
+    ),
+    (
+        NAMED,
+        "# of the run\nclaim accept\nfire b.0\nfire a.0\nfire c.0\nfire a.0\nend\n",
+        0,
+        "audit yes\n",
+    ),
+    // wrong lines: they are counted from the first of the document, whose own come first
+    (TWO, "claim yes\n", 4, "refused line 18: no such answer\n"),
+    (
+        TWO,
+        "claim accept\nfire a\n",
+        4,
+        "refused line 19: bad event\n",
+    ),
+    (
+        TWO,
+        "claim accept\nend\nend\n",
+        4,
+        "refused line 20: text after end\n",
+    ),
+    (
+        "zla 1\nend\n",
+        "claim yes\n",
+        4,
+        "refused line 2: line is out of order\n",
+    ),
+    // a language that isn't closed, after all wrong lines
+    (
+        OPEN,
+        "claim accept\nend\n",
+        5,
+        "not closed\nleft a b\nright b a\n",
+    ),
+    (OPEN, "claim yes\n", 4, "refused line 11: no such answer\n"),
+];
+
+/// Audits a document and what follows it.
+fn audited<R: Abort + Threads + Wait + Sync>(
+    rt: &R,
+    alloc: Global,
+    document: &[u8],
+    claim: &[u8],
+) -> Result<Run, Fail> {
+    let mut text = Vec::from_slice(alloc, document)?;
+    text.extend_from_slice(claim)?;
+    assert!(rt; text.len() < 400_000);
+    run_top(rt, alloc, &["audit"], text, 64, &OpenGate)
+}
+
+#[test]
+fn what_is_said_of_claims(rt: HostRuntime) -> Result<(), Fail> {
+    for (document, claim, status, text) in CLAIMS {
+        let run = audited(&rt, rt.alloc(), document.as_bytes(), claim.as_bytes())?;
+        assert_said(&rt, &run, status, text);
+        assert_eq!(rt; shown(&run.0), Ran::Nothing);
+    }
+    Ok(())
+}
+
+/// Runs the scripts of a document on threads, and has their journal audited.
+fn assert_audited_yes<R: Abort + Threads + Wait + Sync>(
+    rt: &R,
+    alloc: Global,
+    texts: &[&str],
+    document: &[u8],
+    fired: usize,
+) -> Result<(), Fail> {
+    let copy = Vec::from_slice(alloc, document)?;
+    let journal = run_top(rt, alloc, texts, copy, 400_000, &OpenGate)?;
+    assert_eq!(rt; journal.0.status, Status(0));
+    assert_eq!(rt; shown(&journal.0), Ran::OnThreads(fired));
+    let run = audited(rt, alloc, document, journal.1.bytes())?;
+    assert_said(rt, &run, 0, "audit yes\n");
+    Ok(())
+}
+
+/// In whatever order the threads fired the letters.
+#[test]
+fn journals_are_right(rt: HostRuntime) -> Result<(), Fail> {
+    let alloc = rt.alloc();
+    let large = job_of(alloc, 7)?;
+    let words: [&[&str]; 2] = [&["journal"], &["journal", "--cache", "16"]];
+    for texts in words {
+        assert_audited_yes(&rt, alloc, texts, TWO.as_bytes(), 4)?;
+        assert_audited_yes(&rt, alloc, texts, NAMED.as_bytes(), 4)?;
+        assert_audited_yes(&rt, alloc, texts, large.as_slice(), 20000)?;
+    }
+    Ok(())
+}
+
+/// The other process waits before its step 0 until this one comes to its step 1.
+#[derive(Drop)]
+struct First {
+    process: usize,
+    has_stepped: AtomicU64,
+}
+
+impl Gate for First {
+    fn before(&self, p: usize, at: usize) {
+        if p == self.process && at == 1 {
+            self.has_stepped.store(1, SeqCst);
+        }
+        if p != self.process && at == 0 {
+            is_set_in_time(&self.has_stepped);
+        }
+    }
+}
+
+#[test]
+fn a_journal_has_the_order_of_the_threads(rt: HostRuntime) -> Result<(), Fail> {
+    let alloc = rt.alloc();
+    for (process, text) in [
+        (1, "claim accept\nfire b.0\nfire a.0\nend\n"),
+        (0, "claim accept\nfire a.0\nfire b.0\nend\n"),
+    ] {
+        let gate = First {
+            process,
+            has_stepped: AtomicU64::new(0),
+        };
+        let document = Vec::from_slice(alloc, APART.as_bytes())?;
+        let run = run_top(&rt, alloc, &["journal"], document, 64, &gate)?;
+        assert_said(&rt, &run, 0, text);
+    }
+    Ok(())
+}
