@@ -1,6 +1,6 @@
 #!/usr/bin/env python3
 """docs/REFERENCE.md, docs/FORMATS.md, tools/zla.1 and tools/zla.bash against the built program and each other: the
-commands that are built, the statuses, the lines of a job, and the lines of the answers.
+commands, the statuses, the lines of a job, and the lines of the answers.
 """
 import glob
 import os
@@ -15,7 +15,7 @@ sys.dont_write_bytecode = True
 import second_reading  # noqa: E402
 
 PROGRAM = os.path.join(TOP, "crates", "zla", "out", "zla")
-NOT_BUILT = (2, 10)
+USAGE = 2
 wrong = []
 
 
@@ -40,7 +40,7 @@ def section(text, head):
 
 
 def commands(reference, man):
-    """Of the forms in the usage line those are built that the documents have, and no others; those that read a job."""
+    """The documents have the forms in the usage line, and no others; the commands that read a job alone."""
     usage = zla([])[1]
     want(usage.encode() == second_reading.USAGE, "the usage line is another one: " + usage)
     rows = re.findall(r"^\| `\./zla (\w+)([^`]*)` \|", section(reference, "Commands"), re.M)
@@ -50,8 +50,8 @@ def commands(reference, man):
     job = read("examples/lock.zla").encode()
     for form in forms:
         words = ["3" if word == "N" else word for word in form]
-        is_built = zla(words, job)[0] not in NOT_BUILT
-        want(is_built == (form[0] in shown), "REFERENCE.md and the program differ on the command " + form[0])
+        is_known = zla(words, job)[0] != USAGE
+        want(is_known and form[0] in shown, "REFERENCE.md and the program differ on the command " + form[0])
     want(re.findall(r"^\.B zla (\w+)", man, re.M) == shown, "zla.1 has other commands in its synopsis")
     want(re.findall(r"^\.TP\n\.B ([a-z]+)", man, re.M) == shown, "zla.1 describes other commands")
     shell = '. tools/zla.bash; COMP_WORDS=(zla ""); COMP_CWORD=1; _zla; echo "${COMPREPLY[*]}"'
@@ -76,11 +76,12 @@ def statuses(reference, man):
 def lines_of_a_job(reference, man):
     """The grammar has the lines of the second reading, in their order."""
     productions = re.findall(r'^    \w+ += "(\w+)"', reference, re.M)
-    known = {name.decode() for name in list(second_reading.EXACTLY) + list(second_reading.AT_LEAST)}
+    places = second_reading.PLACES[: second_reading.JOB_ENDS]
+    known = {name.decode() for firsts in places for name in firsts}
     want(sorted(productions) == sorted(known), "the grammar of REFERENCE.md has other lines")
     order = re.search(r"^    job +=(.*)$", reference, re.M)[1]
     want([name.rstrip("+*") for name in order.split()] == productions, "the grammar of REFERENCE.md has another order")
-    listed = re.search(r"^\.nf\n(zla 1.*?)\.fi", man, re.M | re.S)[1]
+    listed = re.search(r"^\.nf\n(zla 2.*?)\.fi", man, re.M | re.S)[1]
     want([line.split()[0] for line in listed.splitlines()] == productions, "zla.1 has other lines of a job")
 
 
@@ -91,6 +92,19 @@ def pattern_of(form):
     return re.compile(re.sub(r"(?<![A-Za-z\\])(p?)[A-Z](?![A-Za-z])", r"\1\\S+", pattern))
 
 
+def claims(text):
+    """What `journal` writes for a job, and claims with one thing changed: one of each verdict, where there is a letter."""
+    journal = zla(["journal"], text)[1]
+    lines = journal.splitlines(keepends=True)
+    answer = "claim reject\n" if lines[0] == "claim accept\n" else "claim accept\n"
+    fires = lines[1:-1]
+    relabelled = [fires[0].split(".")[0] + ".1\n"] if fires else []
+    return [journal, "".join([answer] + lines[1:])] + [
+        "".join(lines[:1] + changed + lines[-1:])
+        for changed in ([], relabelled + fires[1:], fires[:1] + fires)
+    ]
+
+
 def answers(reference, asked):
     """Each line of an answer to a job is in the table, and each line of the table in an answer."""
     forms = re.findall(r"`([^`]+)`", "\n".join(re.findall(r"^\|([^|]*)\|", section(reference, "Output lines"), re.M)))
@@ -99,11 +113,13 @@ def answers(reference, asked):
     for name in sorted(glob.glob(os.path.join(TOP, "examples", "**", "*.zla"), recursive=True)):
         with open(name, "rb") as file:
             text = file.read()
-        for command in asked:
-            for line in zla([command], text)[1].splitlines():
-                fits = {form for form, pattern in patterns.items() if pattern.fullmatch(line)}
-                want(fits, "no line of REFERENCE.md's table is like: " + line)
-                met |= fits
+        said = [zla([command], text)[1] for command in asked]
+        if said[asked.index("journal")].startswith("claim "):
+            said += [zla(["audit"], text + claim.encode())[1] for claim in claims(text)]
+        for line in "".join(said).splitlines():
+            fits = {form for form, pattern in patterns.items() if pattern.fullmatch(line)}
+            want(fits, "no line of REFERENCE.md's table is like: " + line)
+            met |= fits
     want(met == set(forms), "no answer has a line like: %s" % sorted(set(forms) - met))
 
 

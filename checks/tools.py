@@ -1,13 +1,13 @@
 #!/usr/bin/env python3
-"""tools/explain, tools/draw and tools/product over the texts that the second reading is compared on, a text for each
-kind of refusal, and some that are rejected.
+"""tools/explain, tools/draw and tools/product over the texts that the second reading is compared on, in both versions of
+documents, a text for each kind of refusal, some that are rejected, and journals, right and wrong.
 
     checks/tools.py [--long]     --long takes every example with each of its changes, and 12,000 jobs drawn at random for 300
 
 What is wanted: an explanation begins with the first line of the answer, and names a line for each answer that is no
 accept; each kind of refusal that docs/FORMATS.md lists is met. A chart has in the column of each process the events that
-it takes part in, in their order. A product takes a word exactly if both rules do. The small rules of docs/RULES.md take
-what they say.
+it takes part in, in their order, and that of a journal a row for each event. A product takes a word exactly if both rules
+do, and joins processes by their names. The small rules of docs/RULES.md take what they say.
 """
 import os
 import random
@@ -20,6 +20,7 @@ TOP = os.path.dirname(os.path.dirname(os.path.abspath(__file__)))
 sys.path[:0] = [os.path.join(TOP, "tools"), os.path.join(TOP, "checks")]
 sys.dont_write_bytecode = True
 import compare  # noqa: E402
+import journals  # noqa: E402
 import second_reading  # noqa: E402
 
 
@@ -47,6 +48,7 @@ REFUSED = [
     (b"", "wrote nothing"),
     (JOB + b"zla 1\n", "two jobs in one file"),
     (b"# a job\n" + JOB, "no comment"),
+    (b"# a job\n" + NAMED, "move it below `zla 2`"),
     (JOB.replace(b"row 0 a 1", b"row 0 a 1 # begin"), "no comment"),
     (JOB.replace(b"letter a 0", b"letter a 0 // of one"), "no comment"),
     (JOB.replace(b"script 0 a", b"script 0 a -- all"), "no comment"),
@@ -91,6 +93,42 @@ REFUSED = [
     (NAMED.replace(b"script left a", b"script left a*0"), "a number from 1 on"),
     (NAMED.replace(b"script left a", b"script 0 a"), "they have names alone"),
     (NAMED.replace(b"script left a", b"script right a"), "has to name process right too"),
+    (NAMED.replace(b"script left a", b"script left c"), "a letter of process left: a or b"),
+    (NAMED.replace(b"script left a", b"script left a * 2"), "`NAME*COUNT` is one piece"),
+    (NAMED.replace(b"script left a", b"script left a # once"), "a comment is a line of its own"),
+    (NAMED.replace(b"states 2", b"// two\nstates 2"), "a comment is a line of its own"),
+    (NAMED.replace(b"processes left right", b"processes"), "the names of the processes are missing"),
+    (NAMED.replace(b"processes left right", b"processes 2"), "the line names the processes"),
+    (NAMED.replace(b"script left a\n", b""), None),
+    (JOB.replace(b"processes 2", b"processes left right"), "version 2 has names of processes"),
+    (JOB + b"claim accept\nend\n", "tools/explain --audit"),
+]
+# the same of texts with a claim
+EVENTS = b"claim accept\nfire a.0\nend\n"
+CLAIMED = [
+    (NAMED, "the journal was forgotten"),
+    (NAMED + EVENTS.replace(b"end\n", b""), "its last line isn't `end`"),
+    (NAMED + EVENTS + EVENTS, "two journals in one file"),
+    (NAMED + EVENTS.replace(b"claim accept\n", b""), "the `claim` line is missing"),
+    (NAMED + EVENTS.replace(b"fire", b"fyre"), "`fire` is misspelled"),
+    (NAMED + EVENTS.replace(b"fire a.0", b"script left a"), "the job has ended at line 10"),
+    (NAMED + EVENTS.replace(b"claim accept\n", b"claim accept\n" * 2), "a claim has one answer"),
+    (NAMED + EVENTS.replace(b"accept", b"yes"), "accept, reject or stuck"),
+    (NAMED + EVENTS.replace(b"fire a.0\n", b"fire a.0\n" * 65537), "more events than a claim may have"),
+    (NAMED + EVENTS.replace(b"a.0", b"a"), "`a` has no point"),
+    (NAMED + EVENTS.replace(b"a.0", b"c.0"), "the letter is one of a or b"),
+    (NAMED + EVENTS.replace(b"a.0", b"a.00"), "leading 0"),
+    (NAMED + EVENTS.replace(b"a.0", b"a.9"), "a label from 0 to 8"),
+    (NAMED + EVENTS.replace(b"a.0", b"a .0"), "a space in `LETTER.LABEL`"),
+    (NAMED.replace(b"accept 1", b"accept 2") + EVENTS, "counted from 0"),
+]
+# the same of claims that aren't right
+UNRIGHT = [
+    (EVENTS.replace(b"a.0", b"b.0"), "process right has ended: it has no script"),
+    (EVENTS.replace(b"a.0", b"a.1"), "its label has to be 0: `fire a.0`"),
+    (EVENTS.replace(b"fire a.0\n", b""), "`a` can still fire: `fire a.0`"),
+    (EVENTS.replace(b"accept", b"reject"), "Line 11 claims `reject`, and the answer is `accept`"),
+    (EVENTS.replace(b"fire a.0\n", b"fire a.0\nfire a.0\n"), "No letter can fire there."),
 ]
 # the same of rejected jobs
 REJECTED = [
@@ -110,37 +148,40 @@ def want(is_right, what, text):
 
 
 def kinds():
-    """The kinds of refusal of documents; those of claims, which no command reads, stand in a table of their own."""
+    """The kinds of refusal of documents and claims."""
     with open(os.path.join(TOP, "docs", "FORMATS.md"), encoding="utf-8") as file:
-        text = file.read()
-    rows = re.compile(r"^\| `\w+` \| `([^`]+)` \|", re.M)
-    claims = text[text.index("Of claims after a document:") :].split("\n\n", 2)[1]
-    return set(rows.findall(text)) - set(rows.findall(claims))
+        return set(re.findall(r"^\| `\w+` \| `([^`]+)` \|", file.read(), re.M))
 
 
-def explanation(text):
+def explanation(text, command="solo"):
     """The explanation of a text, which begins with its answer."""
-    lines = explain.explain(text)
-    answer = second_reading.answer("solo", text)[1].decode().splitlines()[0]
+    lines = explain.explain(text, command)
+    answer = second_reading.answer(command, text)[1].decode().splitlines()[0]
     want(lines[0] == answer, "explain answers " + lines[0], text)
-    is_named = answer == "accept" or len(text) > second_reading.MOST_BYTES or re.search(r"\bline", "\n".join(lines))
+    is_right = answer == "accept" or answer.startswith("audit yes")
+    is_named = is_right or len(text) > second_reading.MOST_BYTES or re.search(r"\bline", "\n".join(lines), re.I)
     want(is_named, "no line is named", text)
     return "\n".join(lines)
 
 
 def refusals():
     met = set()
-    for text, said in REFUSED:
-        told = explanation(text)
-        met.add(told.splitlines()[0].partition(": ")[2])
-        want(said in re.sub(r"\s+", " ", told), "explain doesn't say '%s' but\n%s\n" % (said, told), text)
-    want(met == kinds(), "no text is refused for: %s" % sorted(kinds() ^ met), b"")
+    for texts, command in ((REFUSED, "solo"), (CLAIMED, "audit")):
+        for text, said in texts:
+            told = explanation(text, command)
+            met.add(told.splitlines()[0].partition(": ")[2])
+            wanted = said is None or said in re.sub(r"\s+", " ", told)
+            want(wanted, "explain doesn't say '%s' but\n%s\n" % (said, told), text)
+    want(met - {""} == kinds(), "no text is refused for: %s" % sorted((met - {""}) ^ kinds()), b"")
 
 
 def rejected():
     for text, said in REJECTED:
         told = re.sub(r"\s+", " ", explanation(text))
         want(told.startswith("reject ") and said in told, "explain doesn't say '%s' but\n%s\n" % (said, told), text)
+    for claim, said in UNRIGHT:
+        told = re.sub(r"\s+", " ", explanation(NAMED + claim, "audit"))
+        want(said in told, "explain doesn't say '%s' but\n%s\n" % (said, told), NAMED + claim)
 
 
 def charts(text):
@@ -149,26 +190,56 @@ def charts(text):
     if second_reading.least_break(job, second_reading.minimal(second_reading.completed(job))) is not None:
         return
     word, _ = second_reading.weave(job)
-    run = draw.run_of(text, {"--labels": None}, [])
-    lines = draw.run_text(run).splitlines()
     order = second_reading.Order(job, word)
-    for p in range(job.processes):
-        mine = [mark for mark in run.marks if p in mark.processes]
-        want(all(x.row < y.row for x, y in zip(mine, mine[1:])), "the lane of process %d doesn't go down" % p, text)
-        at = lines[0].index(draw.heads_of(job)[p])
-        lane = [line[at:].split() for line in lines[1 : len(lines) - bool(run.ends)]]
-        names = [cell[0] for cell in lane if cell and cell[0][0] != "|"]
-        wanted = [order.shown(i) for i, a in enumerate(word) if p in job.loc(a)]
-        want(names == wanted, "the lane of process %d shows %s" % (p, names), text)
-    draw.run_svg(run, "")
+    lanes(draw.run_of(text, {"--labels": None}, []), [(a, order.shown(i)) for i, a in enumerate(word)], text)
     draw.rule_text(job)
     draw.rule_svg(job, "")
+    told = journal(job, text)
+    lanes(draw.journal_of(told, {}), [(a, shown) for a, shown in events(told)], told)
+
+
+def events(text):
+    """The events of a claim, as letters and as they are shown."""
+    job = second_reading.read(text, second_reading.CLAIM_ENDS)
+    return [(a, "%s.%d" % (job.name(a), label)) for a, label in job.events]
+
+
+def lanes(run, word, text):
+    """A chart has the events of each process in its column, in their order."""
+    lines = draw.run_text(run).splitlines()
+    heads = [match.start() for match in re.finditer(r"\S+(?: \S+)*", lines[0])]
+    want(len(heads) == run.job.processes, "the chart has %d columns" % len(heads), text)
+    for p, at in enumerate(heads):
+        mine = [mark for mark in run.marks if p in mark.processes]
+        want(all(x.row < y.row for x, y in zip(mine, mine[1:])), "the lane of process %d doesn't go down" % p, text)
+        lane = [line[at:].split() for line in lines[1 : len(lines) - bool(run.ends)]]
+        names = [cell[0] for cell in lane if cell and cell[0][0] != "|"]
+        wanted = [shown for a, shown in word if p in run.job.loc(a)]
+        want(names == wanted, "the lane of process %d shows %s" % (p, names), text)
+    if run.is_numbered:
+        rows = [line.split()[0] for line in lines[1 : len(lines) - bool(run.ends)]]
+        want(rows == [str(at) for at in range(len(word))], "the rows have the numbers %s" % rows, text)
+    draw.run_svg(run, "")
+
+
+def journal(job, text):
+    """The job with a journal, which is explained; so are some that are changed."""
+    draws = random.Random(len(text))
+    dfa = second_reading.minimal(second_reading.completed(job))
+    said, fired = second_reading.journal(job, dfa, draws.choice)
+    told = text + second_reading.printed_claim(job, said, fired)
+    want(explanation(told, "audit").startswith("audit yes"), "a journal isn't right", told)
+    for _ in range(4):
+        explanation(text + journals.changed(job, said, fired, draws), "audit")
+    return told
 
 
 def products(number):
     """The product of two jobs drawn by a number takes what both take."""
     draws = random.Random(number)
     texts = [compare.drawn(draws.randrange(10**6)) for _ in range(2)]
+    if number % 2:
+        texts = [compare.named(texts[0]), compare.named(texts[1]).replace(b"q_0", b"other")]
     jobs = [second_reading.read(text) for text in texts]
     dfas = [second_reading.completed(job) for job in jobs]
     dfa = None
@@ -179,6 +250,9 @@ def products(number):
         if "no word" not in str(unfit):
             return
     text = texts[0] + texts[1]
+    for name, processes in both.letters if dfa else []:
+        wanted = {job.names[p] for job in jobs for other, loc in job.letters if other == name for p in loc}
+        want({both.names[p] for p in processes} == wanted, "the product's letter %s has other processes" % name, text)
     letters = [name for name, _ in product.alphabet_of(jobs)]
     for _ in range(40):
         word = [draws.randrange(len(letters)) for _ in range(draws.randint(0, 8))]
@@ -232,6 +306,11 @@ def main():
     rejected()
     small_rules()
     told = charted = 0
+    try:
+        product.product(second_reading.read(JOB), second_reading.read(NAMED))
+        want(False, "jobs of two versions have a product", JOB + NAMED)
+    except product.Unfit:
+        pass
     for command, text in compare.cases(is_long):
         if command != "solo":
             continue
@@ -243,7 +322,7 @@ def main():
         products(number)
     for line in failed[:20]:
         print("tools: " + line)
-    print("tools: %d texts explained, %d drawn, %d wrong" % (told + len(REFUSED) + len(REJECTED), charted, len(failed)))
+    print("tools: %d texts explained, %d drawn, %d wrong" % (told + len(REFUSED) + len(CLAIMED) + len(REJECTED) + len(UNRIGHT), charted, len(failed)))
     return 1 if failed else 0
 
 

@@ -19,6 +19,9 @@ FORMS = {
     b"script": "script PROCESS LETTER ..",
     b"end": "end",
 }
+# where they differ in version 2
+NAMED_FORMS = {b"zla": "zla 2", b"processes": "processes NAME ..", b"script": "script PROCESS LETTER*COUNT .."}
+CLAIM_FORMS = {b"claim": "claim ANSWER", b"fire": "fire LETTER.LABEL", b"end": "end"}
 COMMENTS = (b"#", b"//", b"--", b";", b"%", b"/*", b"(*")
 SHOWN = 110  # columns of a long line that are shown
 
@@ -38,6 +41,16 @@ class At(NamedTuple):
     line: bytes
     words: List[Token]
     text: bytes
+
+    def forms(self) -> Dict[bytes, str]:
+        """The forms of the lines of a job, or of a claim where the fault is in one."""
+        if self.fault.place >= second_reading.JOB_ENDS:
+            return CLAIM_FORMS
+        return FORMS if self.fault.job.version == 1 else {**FORMS, **NAMED_FORMS}
+
+    def form(self) -> str:
+        """The form of the line."""
+        return self.forms()[self.words[0]]
 
 
 # ---- bytes and lines ----
@@ -77,16 +90,22 @@ def cut(_: At) -> Told:
 
 
 def no_end(at: At) -> Told:
-    may = (quoted(FORMS[word]) for word in second_reading.PLACES[at.fault.place])
+    may = (quoted(at.forms()[word]) for word in second_reading.PLACES[at.fault.place])
     said, cause = "the text ends, and its last line isn't `end`", "the last line was forgotten, or a copy was cut off"
-    if at.fault.place == 0:
+    if at.fault.place == second_reading.JOB_ENDS:
+        said, cause = "the text ends with the job, and no claim follows it", "the journal was forgotten: `cat JOB JOURNAL`"
+    elif at.fault.place == 0:
         said, cause = "the text has no words at all", "an empty file, or a command before a `|` that failed and wrote nothing"
     return Told(said, listed(may, "or"), cause)
 
 
 def trailing(at: At) -> Told:
-    said = "the job has ended at line %d" % at.fault.job.lines[b"end"]
-    return Told(said, "empty lines alone", "two jobs in one file, or a line that belongs above `end`")
+    job = at.fault.job
+    said = "the %s has ended at line %d" % ("claim" if job.claimed else "job", job.lines[b"end"])
+    cause = "two %s in one file, or a line that belongs above `end`" % ("journals" if job.claimed else "jobs")
+    if not job.claimed and at.words[0] == b"claim":
+        cause = "a journal follows the job: `./zla audit` and `tools/explain --audit` read both"
+    return Told(said, "empty lines alone", cause)
 
 
 def header(at: At) -> Told:
@@ -98,16 +117,22 @@ def header(at: At) -> Told:
 
 
 def out_of_order(at: At) -> Told:
-    first, job, place = at.words[0], at.fault.job, at.fault.place
+    first, job, place, forms = at.words[0], at.fault.job, at.fault.place, at.forms()
     said = "no line that begins with %s may stand here" % quoted(first)
-    may = listed((quoted(FORMS[word]) for word in second_reading.PLACES[place]), "or")
-    if first not in FORMS:
-        meant = nearest(first, FORMS)
+    may = listed((quoted(forms[word]) for word in second_reading.PLACES[place]), "or")
+    if first not in forms:
+        meant = nearest(first, forms)
         if meant:
             return Told(said, may, "%s is misspelled" % quoted(meant))
-        firsts = listed(map(quoted, FORMS))
+        if forms is CLAIM_FORMS:
+            return Told(said, may, "a line of a job; the job has ended at line %d" % job.lines[b"end"])
+        firsts = listed(map(quoted, forms))
         return Told(said, may, "the line's first word is missing; each line begins with one of " + firsts)
-    mine = [number for number, firsts in enumerate(second_reading.PLACES) if first in firsts]
+    if forms is CLAIM_FORMS:
+        cause = "the `claim` line is missing" if job.claimed is None else "a claim has one answer"
+        return Told(said, may, cause)
+    places = second_reading.PLACES[: second_reading.JOB_ENDS]
+    mine = [number for number, firsts in enumerate(places) if first in firsts]
     if min(mine) > place:
         missing = list(second_reading.PLACES[place])[-1]
         firsts = [line.split()[:1] for line in at.text.split(b"\n")]
@@ -125,7 +150,8 @@ def out_of_order(at: At) -> Told:
 
 def word_count(at: At) -> Told:
     first, count = at.words[0], len(at.words)
-    wanted = second_reading.EXACTLY.get(first)
+    is_named = at.fault.job.version == 2
+    wanted = None if is_named and first == b"processes" else second_reading.EXACTLY.get(first)
     many = "%d" % wanted if wanted else "at least %d" % second_reading.AT_LEAST[first]
     said = "the line has %d %s; a line that begins with %s has %s" % (
         count,
@@ -138,9 +164,14 @@ def word_count(at: At) -> Told:
         cause = "several letters or states in one row: each letter has a row of its own"
     elif first == b"end":
         cause = "something follows `end` in its line"
+    elif first == b"processes" and is_named:
+        cause = "the names of the processes are missing"
     elif first in (b"processes", b"states") and count > 2:
         cause = "names or a list; the line says how many there are, and they are numbered from 0"
-    return Told(said, quoted(FORMS[first]), cause)
+        cause += "; version 2 has names of processes (`zla 2`)" * (first == b"processes")
+    elif first == b"fire" and count > 2:
+        cause = "a space in `LETTER.LABEL`, or several events in one line"
+    return Told(said, quoted(at.form()), cause)
 
 
 def comment(at: At) -> Optional[Token]:
@@ -153,8 +184,8 @@ def comment(at: At) -> Optional[Token]:
 def role(at: At) -> str:
     """What the token that is wrong is meant to be."""
     first = at.words[0]
-    place = next(i for i, word in enumerate(at.words) if word.column == at.fault.token.column)
     if first == b"row":
+        place = next(i for i, word in enumerate(at.words) if word.column == at.fault.token.column)
         return "the state that the row begins in" if place == 1 else "the state that the row leads to"
     return {
         b"processes": "how many processes there are",
@@ -163,11 +194,12 @@ def role(at: At) -> str:
         b"start": "the state to start in",
         b"accept": "a state that is accepted",
         b"script": "the process whose script it is",
+        b"fire": "the label of an event",
     }[first]
 
 
 def in_another_order(at: At) -> str:
-    return "the words of the line are in another order; it is " + quoted(FORMS[at.words[0]])
+    return "the words of the line are in another order; it is " + quoted(at.form())
 
 
 def bad_number(at: At) -> Told:
@@ -192,8 +224,10 @@ def bad_name(at: At) -> Told:
     cause = "a `-`, `.` or another sign in the name; %s would be one" % quoted(other)
     if len(token) > 32:
         cause = "it has %d signs" % len(token)
+    elif at.words[0] == b"processes" and token.isdigit():
+        cause = "in version 2 the line names the processes; version 1 says how many there are (`zla 1`)"
     elif token[:1].isdigit():
-        cause = "it begins with a digit; the line is %s, the name first" % quoted(FORMS[b"letter"])
+        cause = "it begins with a digit; the line is %s, the name first" % quoted(at.form())
     may = "a name: 1 to 32 of the signs A to Z, a to z, 0 to 9 and _, of which the first is no digit"
     return Told("%s isn't a name" % quoted(token), may, cause)
 
@@ -268,7 +302,7 @@ def repeated_name(at: At) -> Told:
 
 def without_process(at: At) -> Told:
     said = "no process takes part in " + quoted(at.fault.token)
-    return Told(said, quoted(FORMS[b"letter"]), "the processes were forgotten: they stand after the name")
+    return Told(said, quoted(at.form()), "the processes were forgotten: they stand after the name")
 
 
 def letters_of(at: At, p: int) -> str:
@@ -283,8 +317,14 @@ def no_such_letter(at: At) -> Told:
     may = "a letter: " + listed((name.decode() for name in names), "or")
     if at.words[0] == b"script":
         may = letters_of(at, job.process_of(at.words[1]))
+    elif at.words[0] == b"fire":
+        may = "an event: LETTER.LABEL, where the letter is one of %s" % listed((name.decode() for name in names), "or")
     meant = nearest(token, names)
-    if second_reading.NUMBER.match(token):
+    if not token:
+        sign = "point" if at.words[0] == b"fire" else "`*`"
+        said = "no letter stands before the " + sign
+        cause = "a space before the %s; %s is one piece" % (sign, "an event" if at.words[0] == b"fire" else "`NAME*COUNT`")
+    elif second_reading.NUMBER.match(token):
         cause = in_another_order(at)
     elif meant:
         cause = "%s is misspelled (line %d)" % (quoted(meant), job.letter_lines[names.index(meant.encode())])
@@ -309,9 +349,9 @@ def two_targets(at: At) -> Told:
 def not_of_process(at: At) -> Told:
     job, token, p = at.fault.job, at.fault.token, at.fault.job.process_of(at.words[1])
     a = job.letter_of(token if job.version == 1 else token.partition(b"*")[0])
-    owners = processes(job.loc(a)) if job.version == 1 else listed(job.process(q) for q in job.loc(a))
     line, mine = job.letter_lines[a], job.process(p)
-    said = "%s is of %s (line %d), and this is a script of process %s" % (quoted(token), owners, line, mine)
+    there = quoted(token), processes(job, job.loc(a)), line, mine
+    said = "%s is of %s (line %d), and this is a script of process %s" % there
     cause = "the letter belongs into another script; or line %d has to name process %s too" % (line, mine)
     return Told(said, letters_of(at, p), cause)
 
@@ -319,6 +359,31 @@ def not_of_process(at: At) -> Told:
 def scripts_full(_: At) -> Told:
     cause = "the scripts are longer than a document may have them"
     return Told("65536 script letters stand above", "no letter", cause)
+
+
+# ---- claims ----
+
+
+def no_such_answer(at: At) -> Told:
+    said = "%s is no answer" % quoted(at.fault.token)
+    return Told(said, "accept, reject or stuck", "another word for an answer; `./zla journal` writes the claim line")
+
+
+def claim_full(_: At) -> Told:
+    return Told("65536 `fire` lines stand above", "`end`", "more events than a claim may have")
+
+
+def bad_event(at: At) -> Told:
+    said = "%s has no point" % quoted(at.fault.token)
+    may = "an event: a letter's name, a point, and the event's label"
+    return Told(said, may, "the label is missing; `./zla journal` writes it")
+
+
+def no_such_label(at: At) -> Told:
+    n = at.fault.job.processes
+    said = "there is no label " + at.fault.token.decode()
+    may = "a label from 0 to %d, the cube of the number of processes" % n**3
+    return Told(said, may, "the event's number in the journal; a label is a small number that is used again")
 
 
 KINDS: Dict[str, Callable[[At], Told]] = {
@@ -347,6 +412,10 @@ KINDS: Dict[str, Callable[[At], Told]] = {
     "letter not of this process": not_of_process,
     "bad repeat": bad_repeat,
     "more than 65536 script letters": scripts_full,
+    "no such answer": no_such_answer,
+    "more than 65536 events": claim_full,
+    "bad event": bad_event,
+    "no such label": no_such_label,
 }
 # of these a comment is no likely cause, and what is wrong may be no token
 NOT_OF_TOKENS = ("line is cut", "bad byte", "end is missing", "letter without process")
@@ -356,8 +425,15 @@ def told_of(at: At) -> Told:
     note = comment(at)
     if note is None or at.fault.kind in NOT_OF_TOKENS:
         return KINDS[at.fault.kind](at)
-    may = "no comment here: version 2 alone has comments, in lines of their own that begin with `#`"
-    cause = "write the job in version 2 (`zla 2`), or notes in a file beside it"
+    if at.fault.place == 0:
+        may = "no comment here: the header comes first, and after it version 2 alone has comments"
+        cause = "a comment above the header; move it below `zla 2`"
+    elif at.fault.job.version == 2:
+        may = "no comment here: a comment is a line of its own that begins with `#`"
+        cause = "a comment after something else in its line, or one that begins otherwise"
+    else:
+        may = "no comment here: version 2 alone has comments, in lines of their own that begin with `#`"
+        cause = "write the job in version 2 (`zla 2`), or notes in a file beside it"
     return Told("%s begins a comment, it seems" % quoted(note), may, cause)
 
 

@@ -2,8 +2,9 @@
 docs/THEOREMS.md and not from the program.
 
 It reads documents of both versions by the grammar, and works out the answers of `solo`, `check` and `locals` straight from the
-definitions: languages by words, views by positions, labels by tertiary entries. The repository's checks compare the
-program with it, `gen` included, and tools/draw, tools/explain and tools/product are made from it.
+definitions: languages by words, views by positions, labels by tertiary entries. It reads audited texts, a job and a claim
+about a run of it, and works out what `audit` says of them. The repository's checks compare the program with it, `gen`
+included, and tools/draw, tools/explain and tools/product are made from it.
 """
 import itertools
 import re
@@ -11,7 +12,8 @@ from collections import deque
 
 MOST_BYTES = 1048576
 MOST_PROCESSES, MOST_LETTERS, MOST_STATES = {1: 6, 2: 10}, {1: 32, 2: 128}, {1: 32, 2: 128}  # by version
-MOST_SCRIPT_LETTERS = 65536
+MOST_SCRIPT_LETTERS = MOST_EVENTS = 65536
+ANSWERS = [b"accept", b"reject", b"stuck"]
 NAME = re.compile(rb"[A-Za-z_][A-Za-z0-9_]{0,31}\Z")
 NUMBER = re.compile(rb"(0|[1-9][0-9]{0,9})\Z")
 USAGE = b"usage: zla solo|run|check|locals|journal [--cache C], zla audit, zla gen N\n"
@@ -21,6 +23,12 @@ class Token(bytes):
     """A token of a line, with the column at which it begins."""
 
     column = 0
+
+    def part(self, first, last=None):
+        """A part of it."""
+        part = Token(self[first:last])
+        part.column = self.column + first
+        return part
 
 
 class Wrong(Exception):
@@ -32,7 +40,7 @@ class Wrong(Exception):
 
 
 class Refused(Exception):
-    """The first wrong line of a document, and its first failing test; what was read before it, and the place there."""
+    """The first wrong line of a text, and its first failing test; what was read before it, and the place there."""
 
     def __init__(self, line, wrong, job, place):
         super().__init__("refused line %d: %s" % (line, wrong.kind))
@@ -65,6 +73,9 @@ class Job:
         self.letter_lines = []
         self.row_lines = {}
         self.script_lines = []  # for each process the line of each letter of its script
+        self.claimed = None  # in an audited text: the answer that is claimed, and the events, as letters with labels
+        self.events = []
+        self.event_lines = []
 
     def letter_of(self, name):
         for a, (other, _) in enumerate(self.letters):
@@ -98,7 +109,9 @@ class Job:
         return not set(self.loc(a)) & set(self.loc(b))
 
 
-# for each place, the first words that may stand there, and the place after each
+# for each place, the first words that may stand there, and the place after each; a job ends at one, and a claim after it
+# at another
+JOB_ENDS, CLAIM_ENDS = 8, 10
 PLACES = [
     {b"zla": 1},
     {b"processes": 2},
@@ -108,9 +121,11 @@ PLACES = [
     {b"accept": 6},
     {b"row": 6, b"script": 7, b"end": 8},
     {b"script": 7, b"end": 8},
+    {b"claim": 9},
+    {b"fire": 9, b"end": 10},
 ]
 # for each first word, how many words its line has: exactly, or at least
-EXACTLY = {b"zla": 2, b"processes": 2, b"states": 2, b"start": 2, b"row": 4, b"end": 1}
+EXACTLY = {b"zla": 2, b"processes": 2, b"states": 2, b"start": 2, b"row": 4, b"end": 1, b"claim": 2, b"fire": 2}
 AT_LEAST = {b"processes": 2, b"letter": 2, b"accept": 1, b"script": 2}
 
 
@@ -134,18 +149,29 @@ def take_processes(job, words):
 
 def take_item(job, p, word):
     """A letter of a script, or in version 2 so many of it."""
-    before, star, count = word.partition(b"*") if job.version == 2 else (word, b"", b"")
-    name = Token(before)
-    name.column = word.column
-    a = job.letter_of(name)
+    star = word.find(b"*") if job.version == 2 else -1
+    a = job.letter_of(word if star < 0 else word.part(0, star))
     want(p in job.loc(a), "letter not of this process", word)
     times = 1
-    if star:
+    if star >= 0:
+        count = word.part(star + 1)
         want(NUMBER.match(count) and 0 < int(count) < 2**32, "bad repeat", word)
         times = int(count)
     want(sum(map(len, job.scripts)) + times <= MOST_SCRIPT_LETTERS, "more than 65536 script letters", word)
     job.scripts[p] += [a] * times
     job.script_lines[p] += [job.line] * times
+
+
+def take_event(job, word):
+    """An event of a claim: a letter, a point, and a label."""
+    want(len(job.events) < MOST_EVENTS, "more than 65536 events", word)
+    point = word.find(b".")
+    want(point >= 0, "bad event", word)
+    a = job.letter_of(word.part(0, point))
+    label = number(word.part(point + 1))
+    want(label <= job.processes**3, "no such label", word.part(point + 1))
+    job.events.append((a, label))
+    job.event_lines.append(job.line)
 
 
 def take(job, first, words):
@@ -177,6 +203,11 @@ def take(job, first, words):
         p = job.process_of(words[0])
         for word in words[1:]:
             take_item(job, p, word)
+    elif first == b"claim":
+        want(words[0] in ANSWERS, "no such answer", words[0])
+        job.claimed = words[0].decode()
+    elif first == b"fire":
+        take_event(job, words[0])
 
 
 def tokens(text):
@@ -188,8 +219,8 @@ def tokens(text):
     return found
 
 
-def take_line(job, place, text, whole):
-    """One line: the place after it."""
+def take_line(job, place, ends, text, whole):
+    """One line: the place after it. The text ends at a place."""
     want(whole, "line is cut")
     want(all(b == 9 or 32 <= b <= 126 for b in text), "bad byte")
     words = tokens(text)
@@ -198,7 +229,7 @@ def take_line(job, place, text, whole):
     if place == 0:
         want(words in ([b"zla", b"1"], [b"zla", b"2"]), "header is not zla 1 or 2", words[0])
         job.version = int(words[1])
-    want(place < 8, "text after end", words[0])
+    want(place < ends, "text after end", words[0])
     first = words[0]
     want(first in PLACES[place], "line is out of order", first)
     exactly = first in EXACTLY and (first, job.version) != (b"processes", 2)
@@ -208,18 +239,18 @@ def take_line(job, place, text, whole):
     return PLACES[place][first]
 
 
-def read(text):
-    """The job that a document says. Refused names the first wrong line and its kind."""
+def read(text, ends=JOB_ENDS):
+    """The job that a document says, or an audited text with its claim. Refused names the first wrong line and its kind."""
     pieces = text.split(b"\n")
     lines = [(piece, True) for piece in pieces[:-1]] + ([(pieces[-1], False)] if pieces[-1] else [])
     job, place = Job(), 0
     for at, (piece, whole) in enumerate(lines):
         job.line = at + 1
         try:
-            place = take_line(job, place, piece, whole)
+            place = take_line(job, place, ends, piece, whole)
         except Wrong as wrong:
             raise Refused(job.line, wrong, job, place) from None
-    if place < 8:
+    if place < ends:
         raise Refused(len(lines) + 1, Wrong("end is missing"), job, place)
     return job
 
@@ -241,6 +272,12 @@ def printed(job):
     out += [[b"script", job.names[p]] + items(job, script) for p, script in enumerate(job.scripts)]
     out.append([b"end"])
     return b"".join(b" ".join(w if isinstance(w, bytes) else b"%d" % w for w in words) + b"\n" for words in out)
+
+
+def printed_claim(job, answer, events):
+    """The printed form of a claim about a job."""
+    lines = ["claim " + answer] + ["fire %s.%d" % (job.name(a), label) for a, label in events] + ["end"]
+    return "".join(line + "\n" for line in lines).encode()
 
 
 class Dfa:
@@ -341,14 +378,22 @@ def least_break(job, dfa):
     return None
 
 
+def can_fire(job, done, a):
+    """Whether a letter is the next one of each of its processes, of which so many events are done."""
+    return all(job.scripts[p][done[p] : done[p] + 1] == [a] for p in job.loc(a))
+
+
+def least_enabled(job, done):
+    """The least letter that can fire, or None."""
+    return next((a for a in range(len(job.letters)) if can_fire(job, done, a)), None)
+
+
 def weave(job):
     """The greedy word, and how many events of each process it has."""
     done, word = [0] * job.processes, []
     while True:
-        for a in range(len(job.letters)):
-            if all(done[p] < len(job.scripts[p]) and job.scripts[p][done[p]] == a for p in job.loc(a)):
-                break
-        else:
+        a = least_enabled(job, done)
+        if a is None:
             return word, done
         word.append(a)
         for p in job.loc(a):
@@ -402,6 +447,42 @@ class Order:
         return "-" if e is None else "%s.%d" % (self.job.name(self.word[e]), self.labels[e])
 
 
+class Marks:
+    """The labels of a word that grows, in the time that long words allow. Of a past the last event of each process is
+    kept, which says what it is: a past holds each event that comes before one of its events at a process."""
+
+    def __init__(self, job):
+        self.job, self.word, self.labels = job, [], []
+        self.pasts = []  # of each event: for each process the position of its last event in the past, and -1 for none
+        self.latest = [-1] * job.processes  # of each process its last event
+
+    def heard(self, events):
+        """The last events of all processes in the pasts of events."""
+        return {f for e in events for f in self.pasts[e]} - {-1}
+
+    def taken(self, a):
+        """The events of a letter that the tertiary entries of its least process have."""
+        mine = {self.latest[self.job.loc(a)[0]]} - {-1}
+        return {e for e in self.heard(self.heard(self.heard(mine))) if self.word[e] == a}
+
+    def label(self, a):
+        """The label that the letter gets as the next event."""
+        taken = {self.labels[e] for e in self.taken(a)}
+        return next(k for k in range(len(taken) + 1) if k not in taken)
+
+    def push(self, a):
+        """The letter is the next event; its label."""
+        at, loc = len(self.word), self.job.loc(a)
+        self.labels.append(self.label(a))
+        before = [self.pasts[self.latest[p]] for p in loc if self.latest[p] >= 0]
+        past = [max(entries) for entries in zip(*before)] if before else [-1] * self.job.processes
+        for p in loc:
+            past[p] = self.latest[p] = at
+        self.word.append(a)
+        self.pasts.append(past)
+        return self.labels[at]
+
+
 def bound(job):
     n = job.processes
     return "bound labels %d records %d" % (len(job.letters) * (n**3 + 1), n + 1)
@@ -417,6 +498,7 @@ def solo(job, dfa):
             rest = "ended" if done[p] == len(script) else "waits " + job.name(script[done[p]])
             lines.append("process %s fired %d %s" % (job.process(p), done[p], rest))
         lines.append(" ".join(["trace"] + [job.name(a) for a in word]))
+        lines.append(hope_after(dfa, word))
     return status, lines
 
 
@@ -436,6 +518,66 @@ def known(job, dfa, order):
 
 def local_states(job, dfa):
     return 0, known(job, dfa, Order(job, weave(job)[0]))
+
+
+def answer_after(job, dfa, word, done):
+    """The answer where the events are those of a word that fits the scripts maximally."""
+    if any(done[p] < len(script) for p, script in enumerate(job.scripts)):
+        return "stuck"
+    return "accept" if dfa.accepts(word) else "reject"
+
+
+def hope_after(dfa, word):
+    """Whether a word can be lengthened to an accepted one."""
+    return "dead" if accepted_from(dfa, dfa.walk(dfa.start, word)) is None else "alive"
+
+
+class Verdict:
+    """What an audit says of a claim, and what stood before the event that it names: how many events of each process, and
+    the labels."""
+
+    def __init__(self, said, done, marks, at=None):
+        self.said, self.done, self.marks, self.at = said, done, marks, at
+
+
+def verdict(job, dfa):
+    """The verdict on the claim of an audited text, by its definition."""
+    done, marks = [0] * job.processes, Marks(job)
+    for at, (a, label) in enumerate(job.events):
+        if not can_fire(job, done, a):
+            return Verdict("bad letter %d" % at, done, marks, at)
+        if label != marks.label(a):
+            return Verdict("bad label %d" % at, done, marks, at)
+        marks.push(a)
+        for p in job.loc(a):
+            done[p] += 1
+    left = least_enabled(job, done)
+    if left is not None:
+        return Verdict("not maximal " + job.name(left), done, marks)
+    defined = answer_after(job, dfa, marks.word, done)
+    if job.claimed != defined:
+        return Verdict("wrong answer " + defined, done, marks)
+    hope = " " + hope_after(dfa, marks.word) if defined == "stuck" else ""
+    return Verdict("yes" + hope, done, marks)
+
+
+def audit(job, dfa):
+    said = verdict(job, dfa).said
+    return 0 if said.startswith("yes") else 1, ["audit " + said]
+
+
+def journal(job, dfa, choose):
+    """The answer and the events of a journal, where `choose` takes the next letter of those that can fire."""
+    done, marks = [0] * job.processes, Marks(job)
+    while True:
+        ready = [a for a in range(len(job.letters)) if can_fire(job, done, a)]
+        if not ready:
+            events = list(zip(marks.word, marks.labels))
+            return answer_after(job, dfa, marks.word, done), events
+        a = choose(ready)
+        marks.push(a)
+        for p in job.loc(a):
+            done[p] += 1
 
 
 GENERATED_LETTERS = [(b"a", [0]), (b"b", [1]), (b"c", [2]), (b"d", [3])]
@@ -469,21 +611,22 @@ def generated(number):
     return job
 
 
-COMMANDS = {"solo": solo, "check": check, "locals": local_states}
+COMMANDS = {"solo": solo, "check": check, "locals": local_states}  # of a document; `audit` is one of an audited text
 
 
 def answer(command, text):
-    """The status and the text of a command on a document."""
+    """The status and the text of a command on a document, and of `audit` on an audited text."""
     if len(text) > MOST_BYTES:
         return 9, b"refused: more than 1048576 bytes\n"
+    is_audit = command == "audit"
     try:
-        job = read(text)
+        job = read(text, CLAIM_ENDS if is_audit else JOB_ENDS)
     except Refused as refused:
         return 4, ("%s\n" % refused).encode()
     dfa = minimal(completed(job))
     two = least_break(job, dfa)
     if two is None:
-        status, lines = COMMANDS[command](job, dfa)
+        status, lines = audit(job, dfa) if is_audit else COMMANDS[command](job, dfa)
     else:
         left, right = (" ".join(job.name(a) for a in word) for word in (two.left, two.right))
         status, lines = 5, ["not closed", "left " + left, "right " + right]

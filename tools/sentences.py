@@ -4,6 +4,8 @@ import re
 import textwrap
 from typing import Iterable, List, Optional, Union
 
+from second_reading import Job
+
 Lines = List[str]
 WIDTH = 110
 
@@ -20,9 +22,10 @@ def listed(things: Iterable, last: str = "and") -> str:
     return "%s %s %s" % (", ".join(said[:-1]), last, said[-1])
 
 
-def processes(numbers: Iterable[int], last: str = "and") -> str:
-    numbers = list(numbers)
-    return "%s %s" % ("process" if len(numbers) == 1 or last == "or" else "processes", listed(numbers, last))
+def processes(job: Job, numbers: Iterable[int], last: str = "and") -> str:
+    """`process 0`, `processes left and right`: by their names, which in version 1 are their numbers."""
+    names = [job.process(p) for p in numbers]
+    return "%s %s" % ("process" if len(names) == 1 or last == "or" else "processes", listed(names, last))
 
 
 def ranges(numbers: Iterable[int]) -> Lines:

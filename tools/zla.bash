@@ -2,8 +2,8 @@
 _zla() {
     local word=${COMP_WORDS[COMP_CWORD]}
     if [ "$COMP_CWORD" -eq 1 ]; then
-        mapfile -t COMPREPLY < <(compgen -W "solo run check locals gen" -- "$word")
-    elif [[ ${COMP_WORDS[1]} =~ ^(solo|run|check|locals)$ && $word == -* ]]; then
+        mapfile -t COMPREPLY < <(compgen -W "solo run check locals journal audit gen" -- "$word")
+    elif [[ ${COMP_WORDS[1]} =~ ^(solo|run|check|locals|journal)$ && $word == -* ]]; then
         mapfile -t COMPREPLY < <(compgen -W "--cache" -- "$word")
     fi
 }
