@@ -28,13 +28,16 @@ module _ (loc : ℕ → List ℕ) (d : Automaton) (k : Break) (is : IsBreak loc 
       (Then (record { before = k.before; left = k.left; right = k.right; after = k.after; apart = is.apart; from = refl; to = refl }) Done)
 
 -- the words of a table's break are one trace
-pub words-equivalent : (dfa : CompleteDfa) (left right : List ℕ) → IsComplete dfa → AreBreakWords dfa left right → AreEquivalent (loc_of dfa.alphabet) left right
+pub words-equivalent : (dfa : CompleteDfa) (left right : List ℕ) → IsComplete dfa → AreBreakWords dfa left right →
+    AreEquivalent (loc_of dfa.alphabet) left right
 words-equivalent dfa left right whole words p =
     let loc = loc_of dfa.alphabet in
-    ap (projection loc p) words.2 ∙ break-equivalent loc (automaton_of dfa) words.0 words.1.is dfa.alphabet.processes whole.distributed.located p ∙ ap (projection loc p) (sym words.3)
+    ap (projection loc p) words.2 ∙ break-equivalent loc (automaton_of dfa) words.0 words.1.is dfa.alphabet.processes whole.distributed.located p
+    ∙ ap (projection loc p) (sym words.3)
 
 -- and it tells them apart
-pub words-told : (dfa : CompleteDfa) (left right : List ℕ) → AreBreakWords dfa left right → is_accepted (automaton_of dfa) left ≢ is_accepted (automaton_of dfa) right
+pub words-told : (dfa : CompleteDfa) (left right : List ℕ) → AreBreakWords dfa left right →
+    is_accepted (automaton_of dfa) left ≢ is_accepted (automaton_of dfa) right
 words-told dfa left right words same =
     words.1.is.tells (ap (is_accepted (automaton_of dfa)) (sym words.2) ∙ same ∙ ap (is_accepted (automaton_of dfa)) words.3)
 

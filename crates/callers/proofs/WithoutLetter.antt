@@ -1,5 +1,6 @@
 -- The automaton of the words without a letter.
-use Rattle.std.proofs.Common.{◌≡◌, ◌≢◌, ℕ, zero, suc, ◌+◌, ◌*◌, ◌/◌, ◌%◌, ◌<◌, ◌==◌, ◌&&◌, Bool, true, false, not, cond, List, [], ◌∷◌, ◌++◌, length, Option, Some, None, Result, Ok, Err, refl, sym, ap, subst, ◌∙◌, inl, inr, arith}
+use Rattle.std.proofs.Common.{◌≡◌, ◌≢◌, ℕ, zero, suc, ◌+◌, ◌*◌, ◌/◌, ◌%◌, ◌<◌, ◌==◌, ◌&&◌, Bool, true, false, not, cond, List, [], ◌∷◌, ◌++◌, length, Option}
+use Rattle.std.proofs.Common.{Some, None, Result, Ok, Err, refl, sym, ap, subst, ◌∙◌, inl, inr, arith}
 use Rattle.std.specs.Prelude.{nat_lt, IfOk, MatchResult, slice_index_or, is_some, unwrap_or}
 use Rattle.std.specs.Option.{option_or}
 use Rattle.std.proofs.lemmas.Bool.{cases_eq}
@@ -31,7 +32,8 @@ joined a i zero b other =
 joined a i (suc q) b other = grind (arith, nat_tests)
 
 -- a row for one letter more
-pub row-more : (rows : List Row) (row : Row) (a i : ℕ) → row.from ≡ 0 → row.letter.0 ≡ i → row.to ≡ 0 → i ≢ a → ((q b : ℕ) → target_in rows q b ≡ target a i q b) →
+pub row-more : (rows : List Row) (row : Row) (a i : ℕ) → row.from ≡ 0 → row.letter.0 ≡ i → row.to ≡ 0 → i ≢ a →
+    ((q b : ℕ) → target_in rows q b ≡ target a i q b) →
     (q b : ℕ) → target_in (rows ++ row ∷ []) q b ≡ target a (i + 1) q b
 row-more rows row a i from letter to other before q b =
     target_in-more rows row q b ∙ ap (λ t. option_or t (cond (is_at q b row) (Some row.to) None)) (before q b)
@@ -40,10 +42,12 @@ row-more rows row a i from letter to other before q b =
     ∙ ap (λ x. option_or (target a i q b) (cond (0 == q && i == b) (Some x) None)) to ∙ joined a i q b other
 
 -- and none for the letter a
-pub row-skipped : (rows : List Row) (a i : ℕ) → i ≡ a → ((q b : ℕ) → target_in rows q b ≡ target a i q b) → (q b : ℕ) → target_in rows q b ≡ target a (i + 1) q b
+pub row-skipped : (rows : List Row) (a i : ℕ) → i ≡ a → ((q b : ℕ) → target_in rows q b ≡ target a i q b) → (q b : ℕ) →
+    target_in rows q b ≡ target a (i + 1) q b
 row-skipped rows a i same before q b = before q b ∙ grind (arith, nat_tests)
 
-module _ (alphabet : DistributedAlphabet) (rows : List Row) (a : ℕ) (letter : a < length alphabet.letters) (targets : (q b : ℕ) → target_in rows q b ≡ target a (length alphabet.letters) q b) where
+module _ (alphabet : DistributedAlphabet) (rows : List Row) (a : ℕ) (letter : a < length alphabet.letters)
+    (targets : (q b : ℕ) → target_in rows q b ≡ target a (length alphabet.letters) q b) where
   abbrev pub m : ℕ
   m = length alphabet.letters
 
@@ -109,9 +113,11 @@ module _ (alphabet : DistributedAlphabet) (rows : List Row) (a : ℕ) (letter : 
       by_cases false = accepting 0
 
 -- and so are those of what `complete` answers for these rows
-pub completed-without : {E : Type 0} (F : Type 0) (Q : E → Type 0) (alphabet : DistributedAlphabet) (accepting : List Bool) (rows : List Row) (a letters : ℕ) (r : Result CompleteDfa E) →
+pub completed-without : {E : Type 0} (F : Type 0) (Q : E → Type 0) (alphabet : DistributedAlphabet) (accepting : List Bool) (rows : List Row) (a letters : ℕ)
+    (r : Result CompleteDfa E) →
     a < length alphabet.letters → letters ≡ length alphabet.letters → accepting ≡ true ∷ [] → ((q b : ℕ) → target_in rows q b ≡ target a letters q b) →
-    MatchResult r (λ d. F × (d ≡ completed alphabet 1 0 accepting rows)) Q → IfOk r (λ d. (w : List ℕ) → IsWord (length d.alphabet.letters) w → is_accepted (automaton_of d) w ≡ not (has w a))
+    MatchResult r (λ d. F × (d ≡ completed alphabet 1 0 accepting rows)) Q →
+    IfOk r (λ d. (w : List ℕ) → IsWord (length d.alphabet.letters) w → is_accepted (automaton_of d) w ≡ not (has w a))
 completed-without F Q alphabet accepting rows a letters (Ok e) letter counted one targets said =
     let same : completed alphabet 1 0 (true ∷ []) rows ≡ e = sym (said.1 ∙ ap (λ xs. completed alphabet 1 0 xs rows) one) in
     subst (λ (d : CompleteDfa). (w : List ℕ) → IsWord (length d.alphabet.letters) w → is_accepted (automaton_of d) w ≡ not (has w a)) same

@@ -1,5 +1,6 @@
 -- Rows without a fault make a distributed alphabet.
-use Rattle.std.proofs.Common.{◌≡◌, ◌≢◌, ℕ, zero, suc, ◌^◌, ◌<◌, ◌≤◌, Bool, true, false, ◌||◌, ◌==◌, eqb, eqb-true, eq-eqb, List, [], ◌∷◌, ◌++◌, length, map, None, refl, sym, ap, subst, ◌∙◌, arith, inl, inr, ◌⊎◌}
+use Rattle.std.proofs.Common.{◌≡◌, ◌≢◌, ℕ, zero, suc, ◌^◌, ◌<◌, ◌≤◌, Bool, true, false, ◌||◌, ◌==◌, eqb, eqb-true, eq-eqb, List, [], ◌∷◌, ◌++◌, length, map}
+use Rattle.std.proofs.Common.{None, refl, sym, ap, subst, ◌∙◌, arith, inl, inr, ◌⊎◌}
 use Rattle.std.specs.Prelude.{nat_le, nat_lt, fold, bit_or}
 use Rattle.std.specs.List.{list_any}
 use Rattle.std.specs.Str.{bytes_eq}
@@ -67,7 +68,8 @@ below_of_none n (q ∷ ps) none p h =
       | inr f ↦
           elim (or_cases (q == p) (has ps p) h) [
             | inl e ↦ let same : q ≡ p = eqb-true q p e in let low : q < n = leb-false n q f in omega arith
-            | inr r ↦ below_of_none n ps (let e : list_any (λ s. nat_le n s) ps ≡ false = rest_of_none (nat_le n q) (list_any (λ s. nat_le n s) ps) none in e) p r
+            | inr r ↦ below_of_none n ps (let e : list_any (λ s. nat_le n s) ps ≡ false = rest_of_none (nat_le n q) (list_any (λ s. nat_le n s) ps) none in e) p
+                r
           ]
     ]
   where
@@ -106,7 +108,8 @@ none_right true b h = absurd (cc)
 none_right false b h = h
 
 -- no row before has the name of a later one
-fresh_later : (n : ℕ) (before rows : List LetterRow) → letters_fault n before rows ≡ None → (a : ℕ) → a < length rows → named_in before (name_at (map letter_of_row rows) a) ≡ false
+fresh_later : (n : ℕ) (before rows : List LetterRow) → letters_fault n before rows ≡ None → (a : ℕ) → a < length rows →
+    named_in before (name_at (map letter_of_row rows) a) ≡ false
 fresh_later n before [] none a h = absurd (omega arith)
 fresh_later n before (row ∷ rows) none zero h =
     let parts = none_of_or (letter_fault n before row) (letters_fault n (before ++ row ∷ []) rows) none in (right_row n before row parts.0).fresh
@@ -114,10 +117,12 @@ fresh_later n before (row ∷ rows) none (suc a) h =
     let parts = none_of_or (letter_fault n before row) (letters_fault n (before ++ row ∷ []) rows) none in
     let name = name_at (map letter_of_row rows) a in
     let later : named_in (before ++ row ∷ []) name ≡ false = fresh_later n (before ++ row ∷ []) rows parts.1 a (omega arith) in
-    none_left (named_in before name) (named_in (row ∷ []) name) (sym (list_any-append (λ (r : LetterRow). bytes_eq r.name.items name) before (row ∷ [])) ∙ later)
+    none_left (named_in before name) (named_in (row ∷ []) name) (sym (list_any-append (λ (r : LetterRow). bytes_eq r.name.items name) before (row ∷ []))
+    ∙ later)
 
 -- two letters have two names
-apart_below : (n : ℕ) (before rows : List LetterRow) → letters_fault n before rows ≡ None → (a b : ℕ) → a < b → b < length rows → name_at (map letter_of_row rows) a ≢ name_at (map letter_of_row rows) b
+apart_below : (n : ℕ) (before rows : List LetterRow) → letters_fault n before rows ≡ None → (a b : ℕ) → a < b → b < length rows →
+    name_at (map letter_of_row rows) a ≢ name_at (map letter_of_row rows) b
 apart_below n before [] none a b l h e = absurd (omega arith)
 apart_below n before (row ∷ rows) none zero zero l h e = absurd (omega arith)
 apart_below n before (row ∷ rows) none zero (suc b) l h e =
@@ -125,7 +130,8 @@ apart_below n before (row ∷ rows) none zero (suc b) l h e =
     let name = name_at (map letter_of_row rows) b in
     let later : named_in (before ++ row ∷ []) name ≡ false = fresh_later n (before ++ row ∷ []) rows parts.1 b (omega arith) in
     let own : named_in (row ∷ []) name ≡ false =
-    none_right (named_in before name) (named_in (row ∷ []) name) (sym (list_any-append (λ (r : LetterRow). bytes_eq r.name.items name) before (row ∷ [])) ∙ later) in
+    none_right (named_in before name) (named_in (row ∷ []) name) (sym (list_any-append (λ (r : LetterRow). bytes_eq r.name.items name) before (row ∷ []))
+    ∙ later) in
     let other : bytes_eq row.name.items name ≡ false = none_left (bytes_eq row.name.items name) false own in
     let same : bytes_eq row.name.items name ≡ true = (bytes_eq-Decides row.name.items name).1 e in cc
 apart_below n before (row ∷ rows) none (suc a) zero l h e = absurd (omega arith)
@@ -142,7 +148,8 @@ pub distributed_of_rows : (n : ℕ) (rows : List LetterRow) → alphabet_fault n
 distributed_of_rows n rows none =
     let right = right_alphabet n rows none in
     let size : length (map letter_of_row rows) ≡ length rows = length-map rows letter_of_row in
-    let small : (a : ℕ) (r : RowAt n rows a) (p : ℕ) → has r.row.procs.items p ≡ true → p < n = λ a r p h. below_of_none n r.row.procs.items r.right.there p h in
+    let small : (a : ℕ) (r : RowAt n rows a) (p : ℕ) → has r.row.procs.items p ≡ true → p < n =
+    λ a r p h. below_of_none n r.row.procs.items r.right.there p h in
     let few : n ≤ most_processes = right.few_processes in
     let members_at : (a : ℕ) (r : RowAt n rows a) (p : ℕ) → has (members (procs_at (map letter_of_row rows) a)) p ≡ has r.row.procs.items p =
     λ a r p. ap (λ (s : Procs). has (members s) p) r.loc ∙ has-set_of r.row.procs.items p (λ q h. let low : q < n = small a r q h in omega arith) in
@@ -161,7 +168,8 @@ distributed_of_rows n rows none =
       small = λ a h.
           let r = row_at n [] rows right.rows_right a (omega arith) in
           let P : ℕ → Type 0 = λ k. k < 2 ^ 16 in
-          subst P (sym (ap (λ (s : Procs). s.0) r.loc)) (set-small no_process r.row.procs.items (omega arith) (λ q k. let low : q < n = small a r q k in omega arith));
+          subst P (sym (ap (λ (s : Procs). s.0) r.loc))
+          (set-small no_process r.row.procs.items (omega arith) (λ q k. let low : q < n = small a r q k in omega arith));
       located =
           record {
             some = λ a h.

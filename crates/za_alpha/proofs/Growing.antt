@@ -1,5 +1,6 @@
 -- Letters with one letter more.
-use Rattle.std.proofs.Common.{◌≡◌, ◌≢◌, ℕ, zero, suc, ◌+◌, ◌<◌, ◌≤◌, ◌^◌, Bool, ◌||◌, true, false, inl, inr, not, List, [], ◌∷◌, ◌++◌, length, slice_index, slice_set, Some, None, IsTrue, refl, sym, ap, subst, ◌∙◌, arith, length-append, append_assoc, append-nil, take, get_or, map}
+use Rattle.std.proofs.Common.{◌≡◌, ◌≢◌, ℕ, zero, suc, ◌+◌, ◌<◌, ◌≤◌, ◌^◌, Bool, ◌||◌, true, false, inl, inr, not, List, [], ◌∷◌, ◌++◌, length, slice_index}
+use Rattle.std.proofs.Common.{slice_set, Some, None, IsTrue, refl, sym, ap, subst, ◌∙◌, arith, length-append, append_assoc, append-nil, take, get_or, map}
 use Rattle.std.proofs.lemmas.Bool.{cases_eq}
 use Rattle.std.proofs.lemmas.List.{length-map, length-take-le, map-append, take_more}
 use Rattle.std.specs.List.{list_any}
@@ -113,13 +114,15 @@ module _ (alphabet : DistributedAlphabet) (l : NamedLetter) (begun : IsBegun alp
           ];
           below = λ a p h inside. elim (cases_eq a n) [
             | inl e ↦ next.below p (sym (ap (λ (s : Procs). has (members s) p) (ap (procs_at more) e ∙ own)) ∙ inside)
-            | inr ne ↦ begun.located.below a p (omega arith) (sym (ap (λ (s : Procs). has (members s) p) (procs-before alphabet.letters l a (omega arith))) ∙ inside)
+            | inr ne ↦ begun.located.below a p (omega arith) (sym (ap (λ (s : Procs). has (members s) p) (procs-before alphabet.letters l a (omega arith)))
+                ∙ inside)
           ];
         };
       }
 
 -- the index with one letter more
-pub index-more : (ls : List NamedLetter) (l : NamedLetter) (first next : List ℕ) (key : ℕ) → AreChains (key_at ls) (length ls) first next → length ls < most_letters → key ≡ key_of l.name → key < keys →
+pub index-more : (ls : List NamedLetter) (l : NamedLetter) (first next : List ℕ) (key : ℕ) → AreChains (key_at ls) (length ls) first next →
+    length ls < most_letters → key ≡ key_of l.name → key < keys →
     AreChains (key_at (ls ++ l ∷ [])) (length (ls ++ l ∷ [])) (slice_set first key (length ls + 1)) (slice_set next (length ls) (slice_index first key))
 index-more ls l first next key chains room same small =
     let n : ℕ = length ls in
@@ -135,10 +138,12 @@ index-more ls l first next key chains room same small =
 pub row-below : (alphabet : DistributedAlphabet) (row : LetterRow) → IsNextRow alphabet row → (p : ℕ) → has row.procs.items p ≡ true → p < alphabet.processes
 row-below alphabet row right p h = below_of_none alphabet.processes row.procs.items right.there p h
 
-row-has : (alphabet : DistributedAlphabet) (row : LetterRow) → IsNextRow alphabet row → (p : ℕ) → has (members (set_of row.procs.items)) p ≡ has row.procs.items p
+row-has : (alphabet : DistributedAlphabet) (row : LetterRow) → IsNextRow alphabet row → (p : ℕ) →
+    has (members (set_of row.procs.items)) p ≡ has row.procs.items p
 row-has alphabet row right p = has-set_of row.procs.items p (λ q h. let low = row-below alphabet row right q h in let few = right.few in omega arith)
 
-pub set-below : (alphabet : DistributedAlphabet) (row : LetterRow) → IsNextRow alphabet row → (p : ℕ) → IsTrue (has (members (set_of row.procs.items)) p) → p < alphabet.processes
+pub set-below : (alphabet : DistributedAlphabet) (row : LetterRow) → IsNextRow alphabet row → (p : ℕ) → IsTrue (has (members (set_of row.procs.items)) p) →
+    p < alphabet.processes
 set-below alphabet row right p h = row-below alphabet row right p (sym (row-has alphabet row right p) ∙ h)
 
 pub set-some : (alphabet : DistributedAlphabet) (row : LetterRow) → IsNextRow alphabet row → members (set_of row.procs.items) ≢ []
@@ -147,24 +152,29 @@ set-some alphabet row right none =
     let e : has [] p.0 ≡ true = sym (ap (λ ps. has ps p.0) none) ∙ row-has alphabet row right p.0 ∙ p.1 in cc
 
 -- names of rows are names of their letters
-pub taken-map : (rows : List LetterRow) (name : List ℕ) → is_taken (map letter_of_row rows) name ≡ list_any (λ (row : LetterRow). bytes_eq row.name.items name) rows
+pub taken-map : (rows : List LetterRow) (name : List ℕ) →
+    is_taken (map letter_of_row rows) name ≡ list_any (λ (row : LetterRow). bytes_eq row.name.items name) rows
 taken-map [] name = refl
 taken-map (row ∷ rows) name = ap (λ b. bytes_eq row.name.items name || b) (taken-map rows name)
 
 next-row : (n : ℕ) (before : List LetterRow) (row : LetterRow) → n ≤ most_processes → IsRightRow n before row → IsNextRow (alphabet_of_rows n before) row
-next-row n before row few right = record { few = few; named = right.named; fresh = taken-map before row.name.items ∙ right.fresh; some = right.some; there = right.there }
+next-row n before row few right =
+    record { few = few; named = right.named; fresh = taken-map before row.name.items ∙ right.fresh; some = right.some; there = right.there }
 
-right-rows : (n : ℕ) (before rows : List LetterRow) → letters_fault n before rows ≡ None → (a : ℕ) (d : LetterRow) → a < length rows → IsRightRow n (before ++ take a rows) (get_or rows a d)
+right-rows : (n : ℕ) (before rows : List LetterRow) → letters_fault n before rows ≡ None → (a : ℕ) (d : LetterRow) → a < length rows →
+    IsRightRow n (before ++ take a rows) (get_or rows a d)
 right-rows n before [] none a d h = absurd (omega arith)
 right-rows n before (row ∷ rows) none zero d h =
     let parts = none_of_or (letter_fault n before row) (letters_fault n (before ++ row ∷ []) rows) none in
     subst (λ rs. IsRightRow n rs row) (sym (append-nil before)) (right_row n before row parts.0)
 right-rows n before (row ∷ rows) none (suc a) d h =
     let parts = none_of_or (letter_fault n before row) (letters_fault n (before ++ row ∷ []) rows) none in
-    subst (λ rs. IsRightRow n rs (get_or rows a d)) (append_assoc before (row ∷ []) (take a rows)) (right-rows n (before ++ row ∷ []) rows parts.1 a d (omega arith))
+    subst (λ rs. IsRightRow n rs (get_or rows a d)) (append_assoc before (row ∷ []) (take a rows))
+    (right-rows n (before ++ row ∷ []) rows parts.1 a d (omega arith))
 
 -- where there is no fault, each row can be added to the letters of the rows before it
-pub row-fits : (n : ℕ) (rows : List LetterRow) → alphabet_fault n rows ≡ None → (a : ℕ) (d : LetterRow) → a < length rows → IsNextRow (alphabet_of_rows n (take a rows)) (get_or rows a d)
+pub row-fits : (n : ℕ) (rows : List LetterRow) → alphabet_fault n rows ≡ None → (a : ℕ) (d : LetterRow) → a < length rows →
+    IsNextRow (alphabet_of_rows n (take a rows)) (get_or rows a d)
 row-fits n rows none a d h =
     let right = right_alphabet n rows none in
     next-row n (take a rows) (get_or rows a d) right.few_processes (right-rows n [] rows right.rows_right a d h)
@@ -173,7 +183,8 @@ row-fits n rows none a d h =
 pub name-bad : (letters : List NamedLetter) (name : List ℕ) → is_name name ≡ false → name_fault letters name ≡ Some Bad
 name-bad letters name h = rw h refl
 
-pub name-repeated : (letters : List NamedLetter) (name : List ℕ) (i : ℕ) → is_name name ≡ true → place_of letters name ≡ Some i → name_fault letters name ≡ Some Repeated
+pub name-repeated : (letters : List NamedLetter) (name : List ℕ) (i : ℕ) → is_name name ≡ true → place_of letters name ≡ Some i →
+    name_fault letters name ≡ Some Repeated
 name-repeated letters name i h e = rw (h, taken-some letters name 0 i e) refl
 
 pub name-right : (letters : List NamedLetter) (name : List ℕ) → is_name name ≡ true → place_of letters name ≡ None → name_fault letters name ≡ None
@@ -183,7 +194,8 @@ name-right letters name h e = rw (h, taken-none letters name 0 e) refl
 pub index-rows : (rows : List LetterRow) (a : ℕ) (d : LetterRow) (first next : List ℕ) (key : ℕ) → a < length rows → a < most_letters →
     AreChains (key_at (map letter_of_row (take a rows))) (length (map letter_of_row (take a rows))) first next →
     key ≡ key_of (get_or rows a d).name.items → key < keys →
-    AreChains (key_at (map letter_of_row (take (a + 1) rows))) (length (map letter_of_row (take (a + 1) rows))) (slice_set first key (a + 1)) (slice_set next a (slice_index first key))
+    AreChains (key_at (map letter_of_row (take (a + 1) rows))) (length (map letter_of_row (take (a + 1) rows))) (slice_set first key (a + 1))
+    (slice_set next a (slice_index first key))
 index-rows rows a d first next key here room chains same small =
     let before : List NamedLetter = map letter_of_row (take a rows) in
     let row : LetterRow = get_or rows a d in
@@ -191,5 +203,6 @@ index-rows rows a d first next key here room chains same small =
     let more : map letter_of_row (take (a + 1) rows) ≡ before ++ letter_of_row row ∷ [] =
     ap (map letter_of_row) (take_more rows a d here) ∙ map-append letter_of_row (take a rows) (row ∷ []) in
     let grown = index-more before (letter_of_row row) first next key chains (omega arith) same small in
-    let P : List NamedLetter → ℕ → Type 0 = λ ls n. AreChains (key_at ls) (length ls) (slice_set first key (n + 1)) (slice_set next n (slice_index first key)) in
+    let P : List NamedLetter → ℕ → Type 0 =
+    λ ls n. AreChains (key_at ls) (length ls) (slice_set first key (n + 1)) (slice_set next n (slice_index first key)) in
     subst (λ ls. P ls a) (sym more) (subst (P (before ++ letter_of_row row ∷ [])) long grown)

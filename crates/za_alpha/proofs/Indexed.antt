@@ -1,5 +1,6 @@
 -- Chains of letters, and the letter of a name.
-use Rattle.std.proofs.Common.{◌≡◌, ◌≢◌, ℕ, zero, suc, ◌+◌, ◌<◌, ◌≤◌, true, false, inl, inr, List, [], ◌∷◌, length, slice_index, slice_set, Some, None, refl, sym, ap, ◌∙◌, arith}
+use Rattle.std.proofs.Common.{◌≡◌, ◌≢◌, ℕ, zero, suc, ◌+◌, ◌<◌, ◌≤◌, true, false, inl, inr, List, [], ◌∷◌, length, slice_index, slice_set, Some, None, refl}
+use Rattle.std.proofs.Common.{sym, ap, ◌∙◌, arith}
 use Rattle.std.specs.List.{position_from}
 use Rattle.std.specs.Str.{bytes_eq}
 use Rattle.std.proofs.lemmas.Bool.{cases_Bool, cases_eq, cond-true, cond-false}
@@ -9,7 +10,7 @@ use Rattle.za_alpha.specs.Limits.{most_letters}
 use Rattle.za_alpha.specs.Alphabet.{NamedLetter, name_at, place_of}
 use Rattle.za_alpha.specs.NewNames.{is_taken}
 use Rattle.za_alpha.specs.Private.Index.{keys, key_of, key_at, AreChains}
-use Rattle.za_alpha.specs.Private.Begun.{AreApart}
+use Rattle.za_alpha.specs.Private.Begun.{AreNamedApart}
 
 -- none of the letters from `at` on has the name, and the letter before `at` has its key
 pub record IsOnChain (letters : List NamedLetter) (name : List ℕ) (at : ℕ) : Type 0 where
@@ -18,7 +19,8 @@ pub record IsOnChain (letters : List NamedLetter) (name : List ℕ) (at : ℕ) :
   pub key : (i : ℕ) → at ≡ suc i → key_at letters i ≡ key_of name
 
 -- the place of the first letter that has the name
-place-from : (letters : List NamedLetter) (name : List ℕ) (a i : ℕ) → i < length letters → name_at letters i ≡ name → ((j : ℕ) → j < i → name_at letters j ≢ name) →
+place-from : (letters : List NamedLetter) (name : List ℕ) (a i : ℕ) → i < length letters → name_at letters i ≡ name →
+    ((j : ℕ) → j < i → name_at letters j ≢ name) →
     position_from (λ (l : NamedLetter). bytes_eq l.name name) a letters ≡ Some (a + i)
 place-from [] name a i l h before = absurd (omega arith)
 place-from (x ∷ xs) name a zero l h before =
@@ -45,20 +47,25 @@ none-from (x ∷ xs) name a before =
     ∙ none-from xs name (a + 1) (λ j lj. before (suc j) (omega arith))
 
 -- a name is taken exactly where it has a place
-pub taken-some : (letters : List NamedLetter) (name : List ℕ) (a i : ℕ) → position_from (λ (l : NamedLetter). bytes_eq l.name name) a letters ≡ Some i → is_taken letters name ≡ true
+pub taken-some : (letters : List NamedLetter) (name : List ℕ) (a i : ℕ) → position_from (λ (l : NamedLetter). bytes_eq l.name name) a letters ≡ Some i →
+    is_taken letters name ≡ true
 taken-some [] name a i h = absurd (cc)
 taken-some (x ∷ xs) name a i h =
     elim (cases_Bool (bytes_eq x.name name)) [
       | inl t ↦ rw t refl
-      | inr f ↦ rw f (taken-some xs name (a + 1) i (sym (cond-false (bytes_eq x.name name) (Some a) (position_from (λ (l : NamedLetter). bytes_eq l.name name) (a + 1) xs) f) ∙ h))
+      | inr f ↦ rw f (taken-some xs name (a + 1) i
+          (sym (cond-false (bytes_eq x.name name) (Some a) (position_from (λ (l : NamedLetter). bytes_eq l.name name) (a + 1) xs) f) ∙ h))
     ]
 
-pub taken-none : (letters : List NamedLetter) (name : List ℕ) (a : ℕ) → position_from (λ (l : NamedLetter). bytes_eq l.name name) a letters ≡ None → is_taken letters name ≡ false
+pub taken-none : (letters : List NamedLetter) (name : List ℕ) (a : ℕ) → position_from (λ (l : NamedLetter). bytes_eq l.name name) a letters ≡ None →
+    is_taken letters name ≡ false
 taken-none [] name a h = refl
 taken-none (x ∷ xs) name a h =
     elim (cases_Bool (bytes_eq x.name name)) [
-      | inl t ↦ absurd (let e = sym (cond-true (bytes_eq x.name name) (Some a) (position_from (λ (l : NamedLetter). bytes_eq l.name name) (a + 1) xs) t) ∙ h in cc)
-      | inr f ↦ rw f (taken-none xs name (a + 1) (sym (cond-false (bytes_eq x.name name) (Some a) (position_from (λ (l : NamedLetter). bytes_eq l.name name) (a + 1) xs) f) ∙ h))
+      | inl t ↦ absurd (let e = sym (cond-true (bytes_eq x.name name) (Some a) (position_from (λ (l : NamedLetter). bytes_eq l.name name) (a + 1) xs) t)
+          ∙ h in cc)
+      | inr f ↦ rw f (taken-none xs name (a + 1)
+          (sym (cond-false (bytes_eq x.name name) (Some a) (position_from (λ (l : NamedLetter). bytes_eq l.name name) (a + 1) xs) f) ∙ h))
     ]
 
 pub taken-at : (letters : List NamedLetter) (name : List ℕ) (i : ℕ) → i < length letters → name_at letters i ≡ name → is_taken letters name ≡ true
@@ -72,9 +79,10 @@ taken-at (x ∷ xs) name (suc i) l h =
 
 module _ (letters : List NamedLetter) where
   -- found on the chain, or not there
-  pub found-on-chain : (name : List ℕ) (i : ℕ) → AreApart letters → i < length letters → name_at letters i ≡ name → Some i ≡ place_of letters name
+  pub found-on-chain : (name : List ℕ) (i : ℕ) → AreNamedApart letters → i < length letters → name_at letters i ≡ name → Some i ≡ place_of letters name
   found-on-chain name i apart l h =
-      sym (place-from letters name 0 i l h (λ j lj same. let e = apart j i (omega arith) l (same ∙ sym h) in omega arith) ∙ (let e : 0 + i ≡ i = omega arith in ap (λ k. Some k) e))
+      sym (place-from letters name 0 i l h (λ j lj same. let e = apart j i (omega arith) l (same ∙ sym h) in omega arith)
+      ∙ (let e : 0 + i ≡ i = omega arith in ap (λ k. Some k) e))
 
   pub off-chain : (name : List ℕ) → IsOnChain letters name 0 → None ≡ place_of letters name
   off-chain name on = sym (none-from letters name 0 (λ j lj. on.after j (omega arith) lj))
@@ -107,7 +115,8 @@ module _ (letters : List NamedLetter) where
         }
 
 -- no letters yet
-pub chains-none : (key : ℕ → ℕ) (first next : List ℕ) → length first ≡ keys → length next ≡ most_letters → ((k : ℕ) → k < keys → slice_index first k ≡ 0) → AreChains key 0 first next
+pub chains-none : (key : ℕ → ℕ) (first next : List ℕ) → length first ≡ keys → length next ≡ most_letters → ((k : ℕ) → k < keys → slice_index first k ≡ 0) →
+    AreChains key 0 first next
 chains-none key first next lf ln none = record {
   firsts = lf;
   nexts = ln;
@@ -121,7 +130,8 @@ chains-none key first next lf ln none = record {
 }
 
 -- chains of letters whose keys are the same
-pub chains-same : (key key' : ℕ → ℕ) (count : ℕ) (first next : List ℕ) → ((i : ℕ) → i < count → key i ≡ key' i) → AreChains key count first next → AreChains key' count first next
+pub chains-same : (key key' : ℕ → ℕ) (count : ℕ) (first next : List ℕ) → ((i : ℕ) → i < count → key i ≡ key' i) → AreChains key count first next →
+    AreChains key' count first next
 chains-same key key' count first next same chains = record {
   firsts = chains.firsts;
   nexts = chains.nexts;

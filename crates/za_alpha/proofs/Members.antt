@@ -1,16 +1,20 @@
 -- The processes of a set and the bits of its number.
-use Rattle.std.proofs.Common.{◌≡◌, ◌≢◌, ℕ, suc, zero, ◌+◌, ◌*◌, ◌%◌, ◌^◌, ◌<◌, ◌≤◌, Bool, true, false, ◌||◌, ◌&&◌, List, [], ◌∷◌, ◌++◌, length, filter, ◌==◌, length-append, refl, sym, ap, ◌∙◌, arith, eqb, eq-eqb, eqb-true, cond, max, min, inl, inr}
-use Rattle.std.specs.Prelude.{bit_or, bit_and, nat_lt, nat_le}
+use Rattle.std.proofs.Common.{◌≡◌, ◌≢◌, ℕ, suc, zero, ◌+◌, ◌-◌, ◌*◌, ◌/◌, ◌%◌, ◌^◌, ◌<◌, ◌≤◌, Bool, true, false, ◌||◌, ◌&&◌, List, [], ◌∷◌, ◌++◌, filter, ◌==◌}
+use Rattle.std.proofs.Common.{length, length-append, refl, sym, ap, ◌∙◌, arith, add-one, eqb, eq-eqb, eqb-true, cond, max, min, inl, inr}
+use Rattle.std.specs.Prelude.{bit_or, bit_and, nat_lt, nat_le, Option, Some, None, MatchOption}
 use Rattle.std.specs.List.{range_with_len}
-use Rattle.std.specs.Int.{bit_at, w16, trailing_zeros}
-use Rattle.std.proofs.lemmas.Nat.Bits.{bit_at_or, bit_at_and, bit_at-lt, bit_at-zero, bit_at_set_same, bit_at_set_other, same_from_bits, bit_at_above, bit_at-trailing_zeros}
-use Rattle.std.proofs.lemmas.Bool.{cases_Bool, or_left, and_parts}
+use Rattle.std.specs.Int.{bit_at, w16, w32, trailing_zeros}
+use Rattle.std.proofs.lemmas.Nat.Bits.{bit_at_or, bit_at_and, bit_at-lt, bit_at-zero, bit_at_set_same, bit_at_set_other, same_from_bits, bit_at_above}
+use Rattle.std.proofs.lemmas.Nat.{shr-shr, shr_le}
+use Rattle.std.proofs.lemmas.Nat.Bits.{bit_at-trailing_zeros}
+use Rattle.std.proofs.lemmas.Bool.{cases_Bool, cases_eq, cond-false, or_left, and_parts}
 use Rattle.std.proofs.lemmas.Bool.Decides.{eqb_tells, nat_tests}
+use Rattle.std.proofs.lemmas.List.{append-nil}
 use Rattle.std.proofs.lemmas.List.Elements.{filter-append}
 use Rattle.std.proofs.lemmas.Map.Views.{any-filter_same}
 use Rattle.za_alpha.specs.declared.procs.Procs.{Procs}
 use Rattle.za_alpha.specs.Words.{has, meets}
-use Rattle.za_alpha.specs.Procs.{members, members_below}
+use Rattle.za_alpha.specs.Procs.{members, members_below, IsLeastFrom, IsLeastOf}
 use Rattle.za_alpha.proofs.Swaps.{meets-elim, meets-intro}
 
 -- which numbers are in a range
@@ -200,3 +204,70 @@ members-empty s h =
       | inl t ↦ h p (grind (arith, nat_tests))
       | inr f ↦ has-members s p ∙ rw f (and-false (eqb (bit_at s.0 p) 1))
     ])
+
+-- those below a number are those below an earlier one, where none lies between
+pub members_below-skip : (s : Procs) (p q : ℕ) → p ≤ q → q ≤ 16 → ((r : ℕ) → p ≤ r → r < q → has (members s) r ≡ false) →
+    members_below s q ≡ members_below s p
+members_below-skip s p zero le few none = let e : p ≡ 0 = omega arith in ap (members_below s) (sym e)
+members_below-skip s p (suc q) le few none =
+    elim (cases_eq p (suc q)) [
+      | inl e ↦ ap (members_below s) (sym e)
+      | inr ne ↦
+          let out : has (members s) q ≡ false = none q (omega arith) (omega arith) in
+          let same : members_below s q ++ cond (has (members s) q) (q ∷ []) [] ≡ members_below s q =
+          ap (λ xs. members_below s q ++ xs) (cond-false (has (members s) q) (q ∷ []) [] out) ∙ append-nil (members_below s q) in
+          ap (members_below s) (sym (add-one q)) ∙ members_below-more s q (omega arith) ∙ same
+          ∙ members_below-skip s p q (omega arith) (omega arith) (λ r l h. none r l (omega arith))
+    ]
+
+-- those below the next of the set, from those below a start
+pub members_below-next : (s : Procs) (start p : ℕ) → p < 16 → IsLeastFrom (members s) start p → members_below s (p + 1) ≡ members_below s start ++ p ∷ []
+members_below-next s start p small l =
+    members_below-more s p small ∙ ap (λ b. members_below s p ++ cond b (p ∷ []) []) l.inside
+    ∙ ap (λ ps. ps ++ p ∷ []) (members_below-skip s start p l.after (omega arith) l.below)
+
+-- where none is left from a start on, those below it are all
+pub members_below-all : (s : Procs) (start : ℕ) → start ≤ 16 → ((p : ℕ) → start ≤ p → has (members s) p ≡ false) → members_below s start ≡ members s
+members_below-all s start few none = sym (members_below-skip s start 16 few (omega arith) (λ r l h. none r l))
+
+-- a bit of a number that was shifted to the right
+bit_at-shr : (n k i : ℕ) → k ≤ i → bit_at n i ≡ bit_at (n / 2 ^ k) (i - k)
+bit_at-shr n k i l =
+    let e : i ≡ k + (i - k) = omega arith in
+    ap (bit_at n) e ∙ ap (λ x. x % 2) (sym (shr-shr n k (i - k)))
+
+-- where nothing is left after the shift, there is no process from there on
+pub none-from : (s : Procs) (start : ℕ) → s.0 / 2 ^ start ≡ 0 → (p : ℕ) → start ≤ p → has (members s) p ≡ false
+none-from s start z p l =
+    let off : bit_at s.0 p ≡ 0 = bit_at-shr s.0 start p l ∙ ap (λ n. bit_at n (p - start)) z ∙ bit_at-zero (p - start) in
+    has-members s p ∙ rw off refl
+
+-- else the lowest bit that is left tells the least
+pub least-from : (s : Procs) (start : ℕ) → s.0 < 2 ^ 16 → 0 < s.0 / 2 ^ start → IsLeastFrom (members s) start (start + trailing_zeros w32 (s.0 / 2 ^ start))
+least-from s start small some =
+    let n : ℕ = s.0 / 2 ^ start in
+    let at : ℕ = trailing_zeros w32 n in
+    let le : n ≤ s.0 = shr_le s.0 start in
+    let found = bit_at-trailing_zeros w32 n some (omega arith) in
+    let there : start + at - start ≡ at = omega arith in
+    let set : bit_at s.0 (start + at) ≡ 1 = bit_at-shr s.0 start (start + at) (omega arith) ∙ ap (bit_at n) there ∙ found.1 in
+    let low : nat_lt (start + at) 16 ≡ true =
+    elim (cases_Bool (nat_lt (start + at) 16)) [
+      | inl t ↦ t
+      | inr f ↦
+          let far : 16 ≤ start + at = grind (arith, nat_tests) in
+          absurd (let none : bit_at s.0 (start + at) ≡ 0 = bit_at_above s.0 16 (start + at) small far in omega arith)
+    ] in
+    record {
+      inside = has-members s (start + at) ∙ rw (set, low) refl;
+      after = omega arith;
+      below = λ q from to.
+          let off : bit_at s.0 q ≡ 0 = bit_at-shr s.0 start q from ∙ found.2 (q - start) (omega arith) in
+          has-members s q ∙ rw off refl;
+    }
+
+-- the least from 0 on is the least
+pub least-of-all : (s : Procs) (o : Option ℕ) → MatchOption o ((p : ℕ) → 0 ≤ p → has (members s) p ≡ false) (IsLeastFrom (members s) 0) →
+    MatchOption o (members s ≡ []) (IsLeastOf (members s))
+least-of-all s None h = members-empty s (λ p l. h p (omega arith))
+least-of-all s (Some p) h = record { inside = h.inside; below = λ q l. h.below q (omega arith) l }

@@ -1,5 +1,6 @@
 -- What follows where rows have no fault, and of a letter's place.
-use Rattle.std.proofs.Common.{◌≡◌, ℕ, zero, suc, ◌<◌, ◌≤◌, Bool, true, false, ◌||◌, ◌&&◌, eqb, cond, not, List, [], ◌∷◌, ◌+◌, ◌++◌, length, take, drop, get_or, map, Option, Some, None, refl, sym, ap, ◌∙◌, arith, drop-cons}
+use Rattle.std.proofs.Common.{◌≡◌, ℕ, zero, suc, ◌<◌, ◌≤◌, Bool, true, false, ◌||◌, ◌&&◌, eqb, cond, not, List, [], ◌∷◌, ◌+◌, ◌++◌, length, take, drop, get_or}
+use Rattle.std.proofs.Common.{map, Option, Some, None, refl, sym, ap, ◌∙◌, arith, drop-cons}
 use Rattle.std.proofs.lemmas.List.{take_more}
 use Rattle.std.specs.Prelude.{nat_le}
 use Rattle.std.specs.List.{list_any, AllByRecursion}
@@ -69,7 +70,8 @@ right_alphabet n rows none =
     let counted = none_of_cond (not (nat_le 1 n && nat_le n most_processes)) _ _ none in
     let many = none_of_cond (not (nat_le 1 (length rows) && nat_le (length rows) most_letters)) _ _ counted.1 in
     let a : (nat_le 1 n && nat_le n most_processes) ≡ true = not_false (nat_le 1 n && nat_le n most_processes) counted.0 in
-    let b : (nat_le 1 (length rows) && nat_le (length rows) most_letters) ≡ true = not_false (nat_le 1 (length rows) && nat_le (length rows) most_letters) many.0 in
+    let b : (nat_le 1 (length rows) && nat_le (length rows) most_letters) ≡ true =
+    not_false (nat_le 1 (length rows) && nat_le (length rows) most_letters) many.0 in
     record {
       some_process = grind (arith, nat_tests);
       few_processes = grind (arith, nat_tests);

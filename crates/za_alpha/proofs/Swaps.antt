@@ -86,7 +86,16 @@ module _ (loc : ℕ → List ℕ) where
   swaps-trans (Then s r) t = Then s (swaps-trans r t)
 
   swap-back : (u v : List ℕ) → IsSwap loc u v → IsSwap loc v u
-  swap-back u v s = record { before = s.before; left = s.right; right = s.left; after = s.after; apart = apart-flip s.left s.right s.apart; from = s.to; to = s.from }
+  swap-back u v s = record {
+    before = s.before;
+    left = s.right;
+    right = s.left;
+    after = s.after;
+    apart = apart-flip s.left s.right s.apart;
+    from = s.to;
+    to =
+        s.from;
+  }
 
   pub swaps-back : {u v : List ℕ} → Swaps loc u v → Swaps loc v u
   swaps-back Done = Done
@@ -95,7 +104,16 @@ module _ (loc : ℕ → List ℕ) where
   pub swaps-cons : (a : ℕ) {u v : List ℕ} → Swaps loc u v → Swaps loc (a ∷ u) (a ∷ v)
   swaps-cons a Done = Done
   swaps-cons a (Then s t) =
-      Then (record { before = a ∷ s.before; left = s.left; right = s.right; after = s.after; apart = s.apart; from = ap (λ x. a ∷ x) s.from; to = ap (λ x. a ∷ x) s.to }) (swaps-cons a t)
+      Then (record {
+        before = a ∷ s.before;
+        left = s.left;
+        right = s.right;
+        after = s.after;
+        apart = s.apart;
+        from = ap (λ x. a ∷ x) s.from;
+        to =
+            ap (λ x. a ∷ x) s.to;
+      }) (swaps-cons a t)
 
   -- if each process of the letter sees it first, swaps bring it to the front
   front : (a q : ℕ) (w : List ℕ) → has (loc a) q ≡ true → ((p : ℕ) → has (loc a) p ≡ true → (rest : List ℕ) × (projection loc p w ≡ a ∷ rest)) →
@@ -111,8 +129,11 @@ module _ (loc : ℕ → List ℕ) where
             (w, subst (λ x. Swaps loc (b ∷ w) (x ∷ w)) same Done)
         | inr n ↦
             let ind : independent loc a b ≡ true = not_from_false (meets (loc a) (loc b)) n in
-            let r = front a q w h (λ p t. let k = f p t in (k.0, sym (seen-skip p b w (apart-skips a b p ind t)) ∙ k.1)) in
-            (b ∷ r.0, swaps-trans (swaps-cons b r.1) (Then (record { before = []; left = b; right = a; after = r.0; apart = apart-flip a b ind; from = refl; to = refl }) Done))
+            let r = front a q w h (λ p t. let k = f p t in (k.0, sym (seen-skip p b w (apart-skips a b p ind t)) ∙ k.1)) in (
+              b ∷ r.0,
+              swaps-trans (swaps-cons b r.1)
+                  (Then (record { before = []; left = b; right = a; after = r.0; apart = apart-flip a b ind; from = refl; to = refl }) Done),
+            )
       ]
 
   pub equivalent-cancel : (a : ℕ) (u v : List ℕ) → AreEquivalent loc (a ∷ u) (a ∷ v) → AreEquivalent loc u v

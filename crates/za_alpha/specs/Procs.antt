@@ -1,5 +1,5 @@
 -- Sets of processes below 16, kept as the bits of a number.
-use Rattle.std.specs.Prelude.{◌≡◌, ℕ, ◌<◌, ◌==◌, ◌^◌, false, IsTrue, List, filter, bit_or}
+use Rattle.std.specs.Prelude.{◌≡◌, ℕ, ◌<◌, ◌≤◌, ◌==◌, ◌^◌, false, IsTrue, List, filter, bit_or}
 use Rattle.std.specs.List.{range_with_len}
 use Rattle.std.specs.Int.{bit_at}
 use Rattle.za_alpha.specs.declared.procs.Procs.{Procs}
@@ -25,3 +25,9 @@ with_process s p = record { 0 = bit_or s.0 (2 ^ p) }
 pub record IsLeastOf (ps : List ℕ) (p : ℕ) : Type 0 where
   pub inside : IsTrue (has ps p)
   pub below : (q : ℕ) → q < p → has ps q ≡ false
+
+-- the process is in the list, at the start or after it, and none from the start to before it is
+pub record IsLeastFrom (ps : List ℕ) (start p : ℕ) : Type 0 where
+  pub inside : IsTrue (has ps p)
+  pub after : start ≤ p
+  pub below : (q : ℕ) → start ≤ q → q < p → has ps q ≡ false

@@ -4,7 +4,7 @@ ghost use Rattle.za_alpha.specs.Limits.{most_letters};
 ghost use Rattle.za_alpha.specs.Alphabet.{NamedLetter, place_of};
 ghost use Rattle.za_alpha.specs.NewNames.{is_taken};
 ghost use Rattle.za_alpha.specs.Private.Index.{key_of, keys, IsIndex};
-ghost use Rattle.za_alpha.specs.Private.Begun.{AreApart};
+ghost use Rattle.za_alpha.specs.Private.Begun.{AreNamedApart};
 
 use crate::rows::MOST_LETTERS;
 
@@ -103,7 +103,7 @@ pub(crate) fn place_of_name<N: Named>(items: &[N], index: &Index, name: &[u8]) -
     requires { IsIndex (map N.letter items.now) index.now }
     ensures within { IfSome result (λ i. i < length items.now) }
     ensures taken { is_some result ≡ is_taken (map N.letter items.now) name.now }
-    ensures first { AreApart (map N.letter items.now) → result ≡ place_of (map N.letter items.now) name.now }
+    ensures first { AreNamedApart (map N.letter items.now) → result ≡ place_of (map N.letter items.now) name.now }
 {
     let mut at = index.first[key_of(name)] as usize;
     'chain: while 0 < at {

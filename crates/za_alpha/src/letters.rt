@@ -6,7 +6,7 @@ ghost use Rattle.za_alpha.specs.Procs.{members};
 ghost use Rattle.za_alpha.specs.Alphabet.{name_at, place_of, procs_at};
 ghost use Rattle.za_alpha.specs.NewNames.{name_fault};
 ghost use Rattle.za_alpha.specs.Private.Index.{IsIndex};
-ghost use Rattle.za_alpha.specs.Private.Begun.{letter_of_entry, AreApart};
+ghost use Rattle.za_alpha.specs.Private.Begun.{letter_of_entry, AreNamedApart};
 
 use crate::alphabet::Alphabet;
 use crate::fault::{NameFault, OutOfMemory};

@@ -1,6 +1,6 @@
-ghost use Rattle.std.specs.Prelude.{◌≡◌, ℕ, ◌<◌, ◌==◌, ◌||◌, ◌↔◌, [], length, IsTrue, MatchOption};
+ghost use Rattle.std.specs.Prelude.{◌≡◌, ℕ, ◌<◌, ◌≤◌, ◌==◌, ◌||◌, ◌↔◌, [], length, false, IfSome, IsTrue, MatchOption};
 ghost use Rattle.za_alpha.specs.Words.{has, meets};
-ghost use Rattle.za_alpha.specs.Procs.{members, no_process, with_process, IsLeastOf};
+ghost use Rattle.za_alpha.specs.Procs.{members, no_process, with_process, IsLeastOf, IsLeastFrom};
 
 /// A set of processes below 16: bit `p` of the number says whether process `p` is in it.
 #[derive(Clone, Copy, Debug, PartialEq, Eq)]
@@ -84,11 +84,21 @@ impl Procs {
     pub fn least(self) -> Option<usize>
         ensures { MatchOption result (members self ≡ []) (IsLeastOf (members self)) }
     {
-        for p in 0..WIDTH {
-            if self.has(p) {
-                return Some(p);
-            }
+        self.least_from(0)
+    }
+
+    /// The least process of the set from process `start` on, which is at most 16, and `None` exactly
+    /// where the set has none from there on.
+    pub fn least_from(self, start: usize) -> Option<usize>
+        requires { start ≤ 16 }
+        ensures least { MatchOption result ((p : ℕ) → start ≤ p → has (members self) p ≡ false)
+            (IsLeastFrom (members self) start) }
+        ensures small { IfSome result (λ p. p < 16) }
+    {
+        let rest = (self.0 as u32) >> start;
+        if rest == 0 {
+            return None;
         }
-        None
+        Some(start + rest.trailing_zeros() as usize)
     }
 }

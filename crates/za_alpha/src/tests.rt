@@ -55,6 +55,8 @@ fn letters_of_two_processes(rt: HostRuntime) -> Result<(), Fail> {
 fn sets_of_processes(rt: HostRuntime) {
     let set = Procs::none().with(1).with(0);
     assert!(rt; set.count() == 2 && set.least() == Some(0));
+    assert!(rt; set.least_from(1) == Some(1) && set.with(9).least_from(2) == Some(9));
+    assert!(rt; set.least_from(2).is_none() && Procs::none().with(15).least_from(16).is_none());
     assert!(rt; !set.is_below(1) && set.is_below(2));
     assert!(rt; Procs::none().with(3).union(set).count() == 3);
     assert!(rt; set.has(1) && !set.has(2) && !set.meets(Procs::none().with(2)));

@@ -27,7 +27,7 @@ use Rattle.za_claim.specs.declared.claim.Event.{Event}
 use Rattle.za_claim.specs.Claims.{event_letters, blank_event}
 use Rattle.za_claim.proofs.EventLetters.{events-length, event-letter, letters-more}
 use Rattle.za_audit.specs.Private.Standing.{AreCounts, AreUsedUp, NoneIsNext, IsLeastNext, is_next}
-use Rattle.za_audit.specs.Verdicts.{automaton, can_fire, defined_label, letter_at, letters_before, AreRight, AreWhole, IsLeastLeft, IsAnswerOf}
+use Rattle.za_audit.specs.Verdicts.{automaton, can_fire, defined_label, event_letter, letters_before, AreRight, AreWhole, IsLeastLeft, IsAnswerOf}
 use Rattle.za_hope.specs.Jobs.{HasHope}
 use Rattle.za_audit.proofs.Counting.{next-is-enabled}
 
@@ -57,7 +57,7 @@ pub fires-so : (job : JobData) (events : List Event) (i : ℕ) (counts : List �
     IsAlphabet (loc_of job.lang.alphabet) (length job.lang.alphabet.letters) job.lang.alphabet.processes →
     AreCounts job.lang.alphabet (letters_before events i) counts →
     alphabet ≡ job.lang.alphabet → b ≡ is_next alphabet job.scripts counts (get_or events i blank_event).letter.0 →
-    can_fire job (letters_before events i) (letter_at events i) ≡ b
+    can_fire job (letters_before events i) (event_letter events i) ≡ b
 fires-so job events i counts alphabet b l al c same e =
     let a = (get_or events i blank_event).letter.0 in
     sym (e ∙ ap (λ x. is_next x job.scripts counts a) same ∙ next-is-enabled job.lang.alphabet job.scripts (letters_before events i) counts al c a
@@ -102,7 +102,11 @@ module _ (job : JobData) (events : List Event) where
   module _ (counts : List ℕ) (al : IsAlphabet (loc_of job.lang.alphabet) (length job.lang.alphabet.letters) job.lang.alphabet.processes)
       (c : AreCounts job.lang.alphabet (event_letters events) counts) where
     pub whole-from : AreRight job events (length events) → NoneIsNext job.lang.alphabet job.scripts counts → AreWhole job events
-    whole-from right none = record { right = right; none = λ a. sym (next-is-enabled job.lang.alphabet job.scripts (event_letters events) counts al c a) ∙ none a }
+    whole-from right none = record {
+      right = right;
+      none = λ a. sym (next-is-enabled job.lang.alphabet job.scripts (event_letters events) counts al c a)
+          ∙ none a;
+    }
 
     pub left-from : AreRight job events (length events) → (a : ℕ) → IsLeastNext job.lang.alphabet job.scripts counts a → IsLeastLeft job events a
     left-from right a n =

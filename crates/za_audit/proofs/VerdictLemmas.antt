@@ -15,7 +15,8 @@ use Rattle.za_audit.specs.declared.verdict.Audit.{Audit}
 use Rattle.za_audit.specs.declared.verdict.Audit.TheVariants.{Yes, BadLetter, BadLabel, NotMaximal, WrongAnswer}
 use Rattle.za_audit.specs.Laws.{VerdictsAreOne}
 use Rattle.za_audit.specs.Private.Standing.{IsFault}
-use Rattle.za_audit.specs.Verdicts.{IsRight, AreRight, HasBadLetter, HasBadLabel, AreWhole, IsLeastLeft, IsAnswerOf, IsVerdict, NamesLetterOf, can_fire, letter_at}
+use Rattle.za_audit.specs.Verdicts.{IsRight, AreRight, HasBadLetter, HasBadLabel, AreWhole, IsLeastLeft, IsAnswerOf, IsVerdict, NamesLetterOf, can_fire}
+use Rattle.za_audit.specs.Verdicts.{event_letter}
 use Rattle.za_audit.specs.Verdicts.{automaton, letters_before}
 
 -- a job has one answer
@@ -66,7 +67,7 @@ wrong-right job events a x r = x.wrong (r a x.within)
 letter-label : (job : JobData) (events : List Event) (a b : ℕ) → HasBadLetter job events a → HasBadLabel job events b → ⊥
 letter-label job events a b x y =
     let e : a ≡ b = wrong-one job events a b (letter-wrong job events a x) (label-wrong job events b y) in
-    let k = subst (λ i. can_fire job (letters_before events i) (letter_at events i) ≡ true) (sym e) y.letter in
+    let k = subst (λ i. can_fire job (letters_before events i) (event_letter events i) ≡ true) (sym e) y.letter in
     let f : true ≡ false = sym k ∙ x.letter in cc
 
 left-one : (job : JobData) (events : List Event) (a b : ℕ) → IsLeastLeft job events a → IsLeastLeft job events b → a ≡ b

@@ -27,8 +27,8 @@ can_fire job w a =
     nat_lt a (length job.lang.alphabet.letters) && is_enabled (loc_of job.lang.alphabet) (script_of job.scripts) w a
 
 -- the letter of the event at i, and the letters before it
-abbrev pub letter_at : List Event → ℕ → ℕ
-letter_at events i = slice_index (event_letters events) i
+abbrev pub event_letter : List Event → ℕ → ℕ
+event_letter events i = slice_index (event_letters events) i
 
 abbrev pub letters_before : List Event → ℕ → List ℕ
 letters_before events i = take i (event_letters events)
@@ -40,7 +40,7 @@ defined_label job events i =
 
 -- the event at i is right: its letter can fire after the letters before it, and its label is the defined one
 pub record IsRight (job : JobData) (events : List Event) (i : ℕ) : Type 0 where
-  pub letter : IsTrue (can_fire job (letters_before events i) (letter_at events i))
+  pub letter : IsTrue (can_fire job (letters_before events i) (event_letter events i))
   pub label : claimed_label events i ≡ defined_label job events i
 
 -- the first n events are right
@@ -51,13 +51,13 @@ AreRight job events n = (i : ℕ) → i < n → IsRight job events i
 pub record HasBadLetter (job : JobData) (events : List Event) (at : ℕ) : Type 0 where
   pub within : at < length events
   pub before : AreRight job events at
-  pub letter : IsFalse (can_fire job (letters_before events at) (letter_at events at))
+  pub letter : IsFalse (can_fire job (letters_before events at) (event_letter events at))
 
 -- its letter can fire, but its label is another than the defined one
 pub record HasBadLabel (job : JobData) (events : List Event) (at : ℕ) : Type 0 where
   pub within : at < length events
   pub before : AreRight job events at
-  pub letter : IsTrue (can_fire job (letters_before events at) (letter_at events at))
+  pub letter : IsTrue (can_fire job (letters_before events at) (event_letter events at))
   pub label : claimed_label events at ≢ defined_label job events at
 
 -- all events are right, and this is the least letter that can fire after them

@@ -18,10 +18,13 @@ lines_of es cap = record { lines = map bare es; capacity = cap }
 abbrev pub line_at : RowKey × ℕ → Line
 line_at e = record { letter = e.0.letter; inputs = e.0.inputs; output = e.1 }
 
-pub absent-row : (letter : ℕ) (inputs : List ℕ) (es : List (RowKey × ℕ)) → is_some (lookup (is_key letter inputs) (map bare es)) ≡ false → is_some (lookup (is_row_key letter inputs) es) ≡ false
-absent-row letter inputs es h = ap is_some (sym (lookup-bare (is_row_key letter inputs) (λ (k : RowKey). line_key k.letter k.inputs.items) (is_key letter inputs) (λ k. refl) es)) ∙ h
+pub absent-row : (letter : ℕ) (inputs : List ℕ) (es : List (RowKey × ℕ)) → is_some (lookup (is_key letter inputs) (map bare es)) ≡ false → is_some
+    (lookup (is_row_key letter inputs) es) ≡ false
+absent-row letter inputs es h = ap is_some
+    (sym (lookup-bare (is_row_key letter inputs) (λ (k : RowKey). line_key k.letter k.inputs.items) (is_key letter inputs) (λ k. refl) es)) ∙ h
 
-pub stored : (es : List (RowKey × ℕ)) (cap : ℕ) (k : RowKey) (v : ℕ) → slice_get es (cap - 1) ≡ None → 0 < cap → HasKept (lines_of es cap) (lines_of ((k, v) ∷ take (cap - 1) es) cap) (bare (k, v)) Stored
+pub stored : (es : List (RowKey × ℕ)) (cap : ℕ) (k : RowKey) (v : ℕ) → slice_get es (cap - 1) ≡ None → 0 < cap → HasKept (lines_of es cap)
+    (lines_of ((k, v) ∷ take (cap - 1) es) cap) (bare (k, v)) Stored
 stored es cap k v h some =
     let r = none-last (cap - 1) es h in
     (let n = length-map es bare in let l = r.0 in omega arith, ap (λ xs. record { lines = bare (k, v) ∷ map bare xs; capacity = cap }) r.1)
@@ -35,6 +38,8 @@ replaced es cap k v e h few some =
     )
 
 -- over the fields of the rows
-pub kept-in : (old old' : Lines) (new : Lines) (letter output : ℕ) (i i' : List ℕ) (r r' : Kept) → old ≡ old' → i ≡ i' → r' ≡ r → HasKept old new (line_key letter i, output) r → HasKept old' new (line_key letter i', output) r'
+pub kept-in : (old old' : Lines) (new : Lines) (letter output : ℕ) (i i' : List ℕ) (r r' : Kept) → old ≡ old' → i ≡ i' → r' ≡ r → HasKept old new
+    (line_key letter i, output) r → HasKept old' new (line_key letter i', output) r'
 kept-in old old' new letter output i i' r r' eo ei er h =
-    subst (λ x. HasKept old' new (line_key letter i', output) x) (sym er) (subst (λ (x : List ℕ). HasKept old' new (line_key letter x, output) r) ei (subst (λ x. HasKept x new (line_key letter i, output) r) eo h))
+    subst (λ x. HasKept old' new (line_key letter i', output) x) (sym er) (subst (λ (x : List ℕ). HasKept old' new (line_key letter x, output) r) ei
+    (subst (λ x. HasKept x new (line_key letter i, output) r) eo h))

@@ -1,5 +1,6 @@
 -- Lines and the entries of the cache.
-use Rattle.std.proofs.Common.{◌≡◌, ℕ, zero, suc, ◌-◌, ◌≤◌, Bool, true, false, List, [], ◌∷◌, ◌++◌, length, take, map, cond, Option, Some, None, refl, ap, ◌∙◌, sym, inl, inr, arith}
+use Rattle.std.proofs.Common.{◌≡◌, ℕ, zero, suc, ◌-◌, ◌≤◌, Bool, true, false, List, [], ◌∷◌, ◌++◌, length, take, map, cond, Option, Some, None, refl, ap, ◌∙◌}
+use Rattle.std.proofs.Common.{sym, inl, inr, arith}
 use Rattle.std.proofs.lemmas.Bool.{cases_Bool, cond-true, cond-false}
 use Rattle.std.specs.List.{slice_get, AllByRecursion, IsDistinct}
 use Rattle.std.specs.Option.{is_some, option_map_or, option_map}
@@ -18,15 +19,19 @@ module _ {K L X : Type 0} (test : K → Bool) (bare : K → L) (other : L → Bo
   entry-bare : (es : List (K × X)) → lookup_entry other (map thin es) ≡ option_map thin (lookup_entry test es)
   entry-bare [] = refl
   entry-bare (e ∷ es) = ap (λ b. cond b (Some (thin e)) (lookup_entry other (map thin es))) (same e.0) ∙ elim (cases_Bool (test e.0)) [
-    | inl t ↦ cond-true (test e.0) (Some (thin e)) (lookup_entry other (map thin es)) t ∙ sym (ap (option_map thin) (cond-true (test e.0) (Some e) (lookup_entry test es) t))
-    | inr f ↦ cond-false (test e.0) (Some (thin e)) (lookup_entry other (map thin es)) f ∙ entry-bare es ∙ sym (ap (option_map thin) (cond-false (test e.0) (Some e) (lookup_entry test es) f))
+    | inl t ↦ cond-true (test e.0) (Some (thin e)) (lookup_entry other (map thin es)) t ∙ sym
+        (ap (option_map thin) (cond-true (test e.0) (Some e) (lookup_entry test es) t))
+    | inr f ↦ cond-false (test e.0) (Some (thin e)) (lookup_entry other (map thin es)) f ∙ entry-bare es ∙ sym
+        (ap (option_map thin) (cond-false (test e.0) (Some e) (lookup_entry test es) f))
   ]
 
   removed-bare : (es : List (K × X)) → remove_entry other (map thin es) ≡ map thin (remove_entry test es)
   removed-bare [] = refl
   removed-bare (e ∷ es) = ap (λ b. cond b (map thin es) (thin e ∷ remove_entry other (map thin es))) (same e.0) ∙ elim (cases_Bool (test e.0)) [
-    | inl t ↦ cond-true (test e.0) (map thin es) (thin e ∷ remove_entry other (map thin es)) t ∙ sym (ap (map thin) (cond-true (test e.0) es (e ∷ remove_entry test es) t))
-    | inr f ↦ cond-false (test e.0) (map thin es) (thin e ∷ remove_entry other (map thin es)) f ∙ ap (λ r. thin e ∷ r) (removed-bare es) ∙ sym (ap (map thin) (cond-false (test e.0) es (e ∷ remove_entry test es) f))
+    | inl t ↦ cond-true (test e.0) (map thin es) (thin e ∷ remove_entry other (map thin es)) t ∙ sym
+        (ap (map thin) (cond-true (test e.0) es (e ∷ remove_entry test es) t))
+    | inr f ↦ cond-false (test e.0) (map thin es) (thin e ∷ remove_entry other (map thin es)) f ∙ ap (λ r. thin e ∷ r) (removed-bare es) ∙ sym
+        (ap (map thin) (cond-false (test e.0) es (e ∷ remove_entry test es) f))
   ]
 
   pub promoted-bare : (es : List (K × X)) → promoted other (map (λ (e : K × X). (bare e.0, e.1)) es) ≡ map (λ (e : K × X). (bare e.0, e.1)) (promoted test es)
@@ -35,7 +40,8 @@ module _ {K L X : Type 0} (test : K → Bool) (bare : K → L) (other : L → Bo
       ∙ ap (λ r. option_map_or (λ e. e ∷ r) (option_map thin (lookup_entry test es)) (map thin es)) (removed-bare es)
       ∙ go (lookup_entry test es)
     where
-      go : (o : Option (K × X)) → option_map_or (λ e. e ∷ map thin (remove_entry test es)) (option_map thin o) (map thin es) ≡ map thin (option_map_or (λ e. e ∷ remove_entry test es) o es)
+      go : (o : Option (K × X)) → option_map_or (λ e. e ∷ map thin (remove_entry test es)) (option_map thin o) (map thin es) ≡ map thin
+          (option_map_or (λ e. e ∷ remove_entry test es) o es)
       go None = refl
       go (Some e) = refl
 
@@ -52,7 +58,8 @@ module _ {K X : Type 0} (test : K → Bool) where
 
 module _ {K X : Type 0} (eq : K → K → Bool) (c : LruCache K X) (k : K) (v : X) (h : is_some (lookup (eq k) c.entries) ≡ false) where
   pub put-absent : put_entries eq c k v ≡ (k, v) ∷ take (c.cap - 1) c.entries
-  put-absent = ap (λ (o : Option (K × X)). option_map_or (λ e. (e.0, v) ∷ remove_entry (eq k) c.entries) o ((k, v) ∷ take (c.cap - 1) c.entries)) (absent-entry (eq k) c.entries h).0
+  put-absent = ap (λ (o : Option (K × X)). option_map_or (λ e. (e.0, v) ∷ remove_entry (eq k) c.entries) o ((k, v) ∷ take (c.cap - 1) c.entries))
+      (absent-entry (eq k) c.entries h).0
 
   pub displaced-absent : displaced eq c k v ≡ slice_get c.entries (c.cap - 1)
   displaced-absent = ap (λ (o : Option X). option_map_or (λ old. Some (k, old)) o (slice_get c.entries (c.cap - 1))) (absent-entry (eq k) c.entries h).1
@@ -73,7 +80,8 @@ some-last (suc n) (y ∷ xs) x h l = let r = some-last n xs x h (omega arith) in
 
 -- distinct keys stay distinct without their places in memory
 module _ {K L X : Type 0} (test : K → K → Bool) (bare : K → L) (other : L → L → Bool) (same : (j k : K) → other (bare j) (bare k) ≡ test j k) where
-  apart-bare : (j : K) (es : List (K × X)) → AllByRecursion (λ k. test j k ≡ false) (keys_of es) → AllByRecursion (λ k. other (bare j) k ≡ false) (keys_of (map (λ (e : K × X). (bare e.0, e.1)) es))
+  apart-bare : (j : K) (es : List (K × X)) → AllByRecursion (λ k. test j k ≡ false) (keys_of es) → AllByRecursion (λ k. other (bare j) k ≡ false)
+      (keys_of (map (λ (e : K × X). (bare e.0, e.1)) es))
   apart-bare j [] d = tt
   apart-bare j (e ∷ es) d = (same j e.0 ∙ d.0, apart-bare j es d.1)
 

@@ -3,7 +3,7 @@
 
 mod rows;
 
-pub use rows::{Kept, Keys, Line, Rows};
+pub use rows::{Kept, Keys, Line, RowKey, Rows};
 
 #[cfg(test)]
 mod tests;

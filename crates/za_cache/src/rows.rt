@@ -15,11 +15,11 @@ use za_alpha::{MOST_PROCESSES, OutOfMemory};
 /// A short list of numbers, which takes no memory up to 10 of them.
 pub type Keys = SmallVec<u32, MOST_PROCESSES>;
 
-/// The key of a line in the cache.
+/// What a line is looked up by: a letter with the keys of its inputs.
 #[derive(PartialEq, Eq, Hash, Drop)]
-pub(crate) struct RowKey {
-    pub(crate) letter: u8,
-    pub(crate) inputs: Keys,
+pub struct RowKey {
+    pub letter: u8,
+    pub inputs: Keys,
 }
 
 /// A line: a letter with the keys of its inputs, and the key of the output.
@@ -95,7 +95,20 @@ impl Rows {
         ensures found { result ≡ lookup (is_key letter inputs.now) self.old.lines }
         ensures lines { self.new ≡ record self.old { lines = promoted (is_key letter inputs.now) self.old.lines } }
     {
-        look_up(&mut self.cache, letter, inputs)
+        let Ok(inputs) = SmallVec::from_slice(*self.cache.allocator(), inputs) else {
+            unreachable!()
+        };
+        self.find_row(&RowKey { letter, inputs })
+    }
+
+    /// The same with the key as the rows keep it. It copies nothing.
+    pub fn find_row(&mut self, key: &RowKey) -> Option<u32>
+        ensures found { result ≡ lookup (is_key key.now.letter key.now.inputs.items) self.old.lines }
+        ensures lines { self.new ≡ record self.old {
+          lines = promoted (is_key key.now.letter key.now.inputs.items) self.old.lines;
+        } }
+    {
+        look_up(&mut self.cache, key)
     }
 
     /// Keeps a line in front whose letter and inputs, at most 10, no line has. Where the rows are
@@ -123,16 +136,12 @@ impl Rows {
 }
 
 /// The value of a key, which goes to the front.
-fn look_up(cache: &mut LruCache<RowKey, u32>, letter: u8, inputs: &[u32]) -> Option<u32>
-    requires { length inputs.now ≤ most_processes }
-    ensures found { result ≡ lookup (is_row_key letter inputs.now) cache.old.entries }
-    ensures entries { cache.new ≡ lru_cache (promoted (is_row_key letter inputs.now) cache.old.entries) cache.old.cap }
+fn look_up(cache: &mut LruCache<RowKey, u32>, key: &RowKey) -> Option<u32>
+    ensures found { result ≡ lookup (is_row_key key.now.letter key.now.inputs.items) cache.old.entries }
+    ensures entries { cache.new ≡
+        lru_cache (promoted (is_row_key key.now.letter key.now.inputs.items) cache.old.entries) cache.old.cap }
 {
-    let Ok(inputs) = SmallVec::from_slice(*cache.allocator(), inputs) else {
-        unreachable!()
-    };
-    let key = RowKey { letter, inputs };
-    cache.get(&key).copied()
+    cache.get(key).copied()
 }
 
 /// The line of a key and an output.

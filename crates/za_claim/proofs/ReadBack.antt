@@ -204,7 +204,10 @@ module _ (v : Version) (alphabet : DistributedAlphabet) (whole : IsDistributed a
         (one_by_one (HasLabel alphabet) claim.events events.labels)
 
     claim_are_lines : AllByRecursion IsLine (claim_lines alphabet claim)
-    claim_are_lines = (answer_line claim.answer, fire_lines_are claim.events ((codes "end" ∷ []) ∷ []) fit ((refl, (jobs.literal (codes "end") refl refl, tt)), tt))
+    claim_are_lines = (
+      answer_line claim.answer,
+      fire_lines_are claim.events ((codes "end" ∷ []) ∷ []) fit ((refl, (jobs.literal (codes "end") refl refl, tt)), tt),
+    )
 
     abbrev ended : ToldClaim
     ended = record { place = AfterEnd; answer = claim.answer; events = claim.events }
@@ -270,7 +273,8 @@ follow bytes claim right events =
     let cut : lines_of_job text ≡ d.front = ap (lines_through is_end_line) lines ∙ d.through (d.back ++ claimed) in
     let later : lines_of_claim text ≡ d.back ++ claimed = ap (lines_after is_end_line) lines ∙ d.after (d.back ++ claimed) in
     let job_lines : lines_of (job_bytes text) ≡ d.front =
-    ap (λ ls. lines_of (bytes_of_lines ls)) cut ∙ ap lines_of (sym (append-nil (bytes_of_lines d.front))) ∙ lines_again d.front [] d.fine ∙ append-nil d.front in
+    ap (λ ls. lines_of (bytes_of_lines ls)) cut ∙ ap lines_of (sym (append-nil (bytes_of_lines d.front))) ∙ lines_again d.front [] d.fine
+    ∙ append-nil d.front in
     let version : document.version_of d.front ≡ v = sym (d.version d.back) ∙ ap document.version_of (sym d.split) in
     let job_right : document.fault_of (job_bytes text) ≡ None =
     ap (λ ls. document.faults_from (document.version_of ls) [] ls) job_lines ∙ ap (λ u. document.faults_from u [] d.front) version ∙ d.right in

@@ -18,7 +18,8 @@ use Rattle.za_lang.specs.declared.fault.Refusal.TheVariants.{Wrong, OutOfMemory}
 use Rattle.za_claim.specs.declared.claim.Event.{Event}
 use Rattle.za_claim.specs.declared.order.Place.TheVariants.{AtClaim}
 use Rattle.za_claim.specs.Claims.{AreClaimedEvents, HasLabel, event_letters}
-use Rattle.za_claim.specs.Grammar.{ToldClaim, told, claim_place_by, claim_place_after, answer_told_by, answer_in, events_by, events_in, claim_fault_at, claim_end_fault, claim_faults_from}
+use Rattle.za_claim.specs.Grammar.{ToldClaim, told, claim_place_by, claim_place_after, answer_told_by, answer_claimed, events_by, events_in, claim_fault_at}
+use Rattle.za_claim.specs.Grammar.{claim_end_fault, claim_faults_from}
 use Rattle.za_claim.specs.Limits.{most_events}
 use Rattle.za_claim.specs.Private.Reading.{more_claimed}
 
@@ -42,7 +43,7 @@ pub said_more : (v : Version) (alphabet : DistributedAlphabet) (ls : List RawLin
 unfolding told
 said_more v alphabet ls line =
     let p : claim_place_after v (ls ++ line ∷ []) ≡ claim_place_by (claim_place_after v ls) (words_in v line) = fold-append _ _ ls (line ∷ []) in
-    let a : answer_in v (ls ++ line ∷ []) ≡ answer_told_by (answer_in v ls) (words_in v line) = fold-append _ _ ls (line ∷ []) in
+    let a : answer_claimed v (ls ++ line ∷ []) ≡ answer_told_by (answer_claimed v ls) (words_in v line) = fold-append _ _ ls (line ∷ []) in
     let e : events_in v alphabet (ls ++ line ∷ []) ≡ events_in v alphabet ls ++ events_by alphabet (words_in v line) = flat_map-append _ ls (line ∷ [])
     ∙ simp append-nil in
     rw p (rw a (rw e (more_is alphabet (told v alphabet ls) (words_in v line))))
@@ -58,7 +59,8 @@ pub record IsReadSo (v : Version) (alphabet : DistributedAlphabet) (first passed
 pub reads-first : (v : Version) (alphabet : DistributedAlphabet) (first : ℕ) (all : List RawLine) → IsReadSo v alphabet first first all all nothing_said
 reads-first v alphabet first all = record { before = []; split = refl; count = omega arith; faults = refl; says = sym (said_none v alphabet) }
 
-module _ {v : Version} {alphabet : DistributedAlphabet} {first passed : ℕ} {all left : List RawLine} {s : ToldClaim} (r : IsReadSo v alphabet first passed all left s)
+module _ {v : Version} {alphabet : DistributedAlphabet} {first passed : ℕ} {all left : List RawLine} {s : ToldClaim}
+    (r : IsReadSo v alphabet first passed all left s)
     (line : RawLine) (rest : List RawLine) (e : left ≡ line ∷ rest) where
   at-line : claim_faults_from v alphabet first [] all ≡ claim_faults_from v alphabet first r.before (line ∷ rest)
   at-line = r.faults ∙ ap (claim_faults_from v alphabet first r.before) e
@@ -92,7 +94,8 @@ module _ {v : Version} {alphabet : DistributedAlphabet} {first passed : ℕ} {al
   reads-wrong number OutOfMemory step wrong = tt
 
 -- the end of the text
-module _ {v : Version} {alphabet : DistributedAlphabet} {first passed : ℕ} {all left : List RawLine} {s : ToldClaim} (r : IsReadSo v alphabet first passed all left s)
+module _ {v : Version} {alphabet : DistributedAlphabet} {first passed : ℕ} {all left : List RawLine} {s : ToldClaim}
+    (r : IsReadSo v alphabet first passed all left s)
     (e : left ≡ []) where
   pub all-read : all ≡ r.before
   all-read = r.split ∙ ap (λ x. r.before ++ x) e ∙ append-nil r.before

@@ -80,8 +80,8 @@ answer_told_by answer [] = answer
 answer_told_by answer (word ∷ words) = answer_said answer (claim_head word) words
 
 -- the answer that lines say; that of no lines is never asked for
-abbrev pub answer_in : Version → List RawLine → Answer
-answer_in version lines = fold (λ answer line. answer_told_by answer (words_in version line)) Stuck lines
+abbrev pub answer_claimed : Version → List RawLine → Answer
+answer_claimed version lines = fold (λ answer line. answer_told_by answer (words_in version line)) Stuck lines
 
 -- where the first point of a word stands, and the word's length where there is none
 abbrev pub point_in : List ℕ → ℕ
@@ -122,7 +122,7 @@ pub record ToldClaim : Type 0 where
 unfoldable pub told : Version → DistributedAlphabet → List RawLine → ToldClaim
 told version alphabet lines = record {
   place = claim_place_after version lines;
-  answer = answer_in version lines;
+  answer = answer_claimed version lines;
   events = events_in version alphabet lines;
 }
 

@@ -35,14 +35,19 @@ least_breaks_are_one loc d k l a b =
 
 module _ (loc : ℕ → List ℕ) (d : Automaton) (total : IsTotal d) where
   -- where both words of a break lead
-  left-walk : (k : Break) (q : ℕ) → walk d.step d.start k.before ≡ q → is_accepted d (left_word k) ≡ d.accepts (walk d.step (d.step (d.step q k.left) k.right) k.after)
-  left-walk k q e = ap d.accepts (walk-append d.step d.start k.before (k.left ∷ k.right ∷ k.after) ∙ ap (λ x. walk d.step (d.step (d.step x k.left) k.right) k.after) e)
+  left-walk : (k : Break) (q : ℕ) → walk d.step d.start k.before ≡ q →
+      is_accepted d (left_word k) ≡ d.accepts (walk d.step (d.step (d.step q k.left) k.right) k.after)
+  left-walk k q e = ap d.accepts (walk-append d.step d.start k.before (k.left ∷ k.right ∷ k.after)
+      ∙ ap (λ x. walk d.step (d.step (d.step x k.left) k.right) k.after) e)
 
-  right-walk : (k : Break) (q : ℕ) → walk d.step d.start k.before ≡ q → is_accepted d (right_word k) ≡ d.accepts (walk d.step (d.step (d.step q k.right) k.left) k.after)
-  right-walk k q e = ap d.accepts (walk-append d.step d.start k.before (k.right ∷ k.left ∷ k.after) ∙ ap (λ x. walk d.step (d.step (d.step x k.right) k.left) k.after) e)
+  right-walk : (k : Break) (q : ℕ) → walk d.step d.start k.before ≡ q →
+      is_accepted d (right_word k) ≡ d.accepts (walk d.step (d.step (d.step q k.right) k.left) k.after)
+  right-walk k q e = ap d.accepts
+      (walk-append d.step d.start k.before (k.right ∷ k.left ∷ k.after) ∙ ap (λ x. walk d.step (d.step (d.step x k.right) k.left) k.after) e)
 
   -- the word after the letters of a break tells apart where they lead
-  break-tells : (k : Break) → IsBreak loc d k → (q : ℕ) → walk d.step d.start k.before ≡ q → TellsApart d (d.step (d.step q k.left) k.right) (d.step (d.step q k.right) k.left) k.after
+  break-tells : (k : Break) → IsBreak loc d k → (q : ℕ) → walk d.step d.start k.before ≡ q →
+      TellsApart d (d.step (d.step q k.left) k.right) (d.step (d.step q k.right) k.left) k.after
   break-tells k b q e = record { word = b.after_word; apart = λ s. b.tells (left-walk k q e ∙ s ∙ sym (right-walk k q e)) }
 
   -- the letters of a break have a broken diamond
@@ -51,7 +56,8 @@ module _ (loc : ℕ → List ℕ) (d : Automaton) (total : IsTotal d) where
       record { order = b.order; letter = b.letter; apart = b.apart; parted = λ s. (break-tells k b q e).apart (ap (λ x. d.accepts (walk d.step x k.after)) s) }
 
   -- the first broken diamond, between the access word of its state and the least word that tells it, is the least break
-  pub first-is-least : (words : List (List ℕ)) → IsNumberedBy d words → (q a b : ℕ) (v : List ℕ) → IsFirstBroken loc d q a b → IsLeastApart d (d.step (d.step q a) b) (d.step (d.step q b) a) v →
+  pub first-is-least : (words : List (List ℕ)) → IsNumberedBy d words → (q a b : ℕ) (v : List ℕ) → IsFirstBroken loc d q a b →
+      IsLeastApart d (d.step (d.step q a) b) (d.step (d.step q b) a) v →
       IsLeastBreak loc d (record { before = word_at words q; left = a; right = b; after = v })
   first-is-least words num q a b v first apart =
       let u = word_at words q in
@@ -75,7 +81,8 @@ module _ (loc : ℕ → List ℕ) (d : Automaton) (total : IsTotal d) where
               | inl less ↦ absurd (first.least_state r l.left l.right less (break-breaks l bl r refl))
               | inr more ↦ elim (cases_eq r q) [
                 | inl same ↦ lu.least l.before (record { word = bl.before_word; there = same })
-                | inr ne ↦ not-before l.before u (word_at words r) (num.rising q r (omega arith) rl) ((num.access r rl).least l.before (record { word = bl.before_word; there = refl }))
+                | inr ne ↦ not-before l.before u (word_at words r) (num.rising q r (omega arith) rl)
+                    ((num.access r rl).least l.before (record { word = bl.before_word; there = refl }))
               ]
             ];
         left = λ l bl e. elim (cases_lt l.left a) [
@@ -83,7 +90,8 @@ module _ (loc : ℕ → List ℕ) (d : Automaton) (total : IsTotal d) where
           | inr more ↦ more
         ];
         right = λ l bl e s. elim (cases_lt l.right b) [
-          | inl less ↦ absurd (first.least_right l.right less (subst (λ x. IsBrokenAt loc d q x l.right) s (break-breaks l bl q (ap (walk d.step d.start) e ∙ at))))
+          | inl less ↦ absurd (first.least_right l.right less
+              (subst (λ x. IsBrokenAt loc d q x l.right) s (break-breaks l bl q (ap (walk d.step d.start) e ∙ at))))
           | inr more ↦ more
         ];
         after = λ l bl e s r.
@@ -99,8 +107,10 @@ both-words d e letters language loc k b =
     let o = b.order in
     let l = b.letter in
     let first : k.left < d.letters = omega arith in (
-      language (left_word k) (All-append (λ c. c < d.letters) k.before (k.left ∷ k.right ∷ k.after) b.before_word (All-cons (λ c. c < d.letters) k.left (k.right ∷ k.after) first (All-cons (λ c. c < d.letters) k.right k.after l b.after_word))),
-      language (right_word k) (All-append (λ c. c < d.letters) k.before (k.right ∷ k.left ∷ k.after) b.before_word (All-cons (λ c. c < d.letters) k.right (k.left ∷ k.after) l (All-cons (λ c. c < d.letters) k.left k.after first b.after_word))),
+      language (left_word k) (All-append (λ c. c < d.letters) k.before (k.left ∷ k.right ∷ k.after) b.before_word
+          (All-cons (λ c. c < d.letters) k.left (k.right ∷ k.after) first (All-cons (λ c. c < d.letters) k.right k.after l b.after_word))),
+      language (right_word k) (All-append (λ c. c < d.letters) k.before (k.right ∷ k.left ∷ k.after) b.before_word
+          (All-cons (λ c. c < d.letters) k.right (k.left ∷ k.after) l (All-cons (λ c. c < d.letters) k.left k.after first b.after_word))),
     )
 
 break-moves : (d e : Automaton) → d.letters ≡ e.letters → HaveSameLanguage d e → (loc : ℕ → List ℕ) (k : Break) → IsBreak loc d k → IsBreak loc e k
@@ -115,7 +125,8 @@ break-moves d e letters language loc k b =
       tells = λ s. b.tells (same.0 ∙ s ∙ sym same.1);
     }
 
-pub least-moves : (d e : Automaton) → d.letters ≡ e.letters → HaveSameLanguage d e → (loc : ℕ → List ℕ) (k : Break) → IsLeastBreak loc d k → IsLeastBreak loc e k
+pub least-moves : (d e : Automaton) → d.letters ≡ e.letters → HaveSameLanguage d e → (loc : ℕ → List ℕ) (k : Break) → IsLeastBreak loc d k →
+    IsLeastBreak loc e k
 least-moves d e letters language loc k b =
     let back : (l : Break) → IsBreak loc e l → IsBreak loc d l =
     λ l bl. break-moves e d (sym letters) (λ w h. sym (language w (subst (λ n. IsWord n w) (sym letters) h))) loc l bl in

@@ -19,12 +19,14 @@ same_or_not false true = inr (λ e. cc)
 same_or_not false false = inl refl
 
 module _ (loc : ℕ → List ℕ) (d : Automaton) where
-  ordered-swap : ((k : Break) → IsBreak loc d k → ⊥) → (x : List ℕ) (a b : ℕ) (y : List ℕ) → IsWord d.letters x → IsWord d.letters y → a < b → b < d.letters → independent loc a b ≡ true →
+  ordered-swap : ((k : Break) → IsBreak loc d k → ⊥) → (x : List ℕ) (a b : ℕ) (y : List ℕ) → IsWord d.letters x → IsWord d.letters y → a < b → b < d.letters →
+      independent loc a b ≡ true →
       is_accepted d (x ++ a ∷ b ∷ y) ≡ is_accepted d (x ++ b ∷ a ∷ y)
   ordered-swap free x a b y hx hy ab bl ind =
       elim (same_or_not (is_accepted d (x ++ a ∷ b ∷ y)) (is_accepted d (x ++ b ∷ a ∷ y))) [
         | inl e ↦ e
-        | inr n ↦ absurd (free (record { before = x; left = a; right = b; after = y }) (record { before_word = hx; after_word = hy; order = ab; letter = bl; apart = ind; tells = n }))
+        | inr n ↦ absurd (free (record { before = x; left = a; right = b; after = y })
+            (record { before_word = hx; after_word = hy; order = ab; letter = bl; apart = ind; tells = n }))
       ]
 
   swap-accepted : ((k : Break) → IsBreak loc d k → ⊥) → (u v : List ℕ) → IsSwap loc u v → IsWord d.letters u → is_accepted d u ≡ is_accepted d v
@@ -56,13 +58,15 @@ module _ (loc : ℕ → List ℕ) (d : Automaton) where
   break-word : (k : Break) → IsBreak loc d k → IsWord d.letters (k.before ++ k.left ∷ k.right ∷ k.after)
   break-word k b =
       All-append (λ c. c < d.letters) k.before (k.left ∷ k.right ∷ k.after) b.before_word
-      (let o = b.order in let l = b.letter in All-cons (λ c. c < d.letters) k.left (k.right ∷ k.after) (omega arith) (All-cons (λ c. c < d.letters) k.right k.after b.letter b.after_word))
+      (let o = b.order in let l = b.letter in
+      All-cons (λ c. c < d.letters) k.left (k.right ∷ k.after) (omega arith) (All-cons (λ c. c < d.letters) k.right k.after b.letter b.after_word))
 
   pub closed-unbroken : IsTraceClosed loc d → (k : Break) → IsBreak loc d k → ⊥
   closed-unbroken c k b =
       let s = break-swap k b in
       let h = break-word k b in
-      b.tells (c (k.before ++ k.left ∷ k.right ∷ k.after) (k.before ++ k.right ∷ k.left ∷ k.after) h (swap-all loc (λ x. x < d.letters) _ _ s h) (swap-sound loc _ _ s))
+      b.tells (c (k.before ++ k.left ∷ k.right ∷ k.after) (k.before ++ k.right ∷ k.left ∷ k.after) h (swap-all loc (λ x. x < d.letters) _ _ s h)
+      (swap-sound loc _ _ s))
 
   pub unbroken-closed : (processes : ℕ) → IsAlphabet loc d.letters processes → ((k : Break) → IsBreak loc d k → ⊥) → IsTraceClosed loc d
   unbroken-closed processes al free u v hu hv e =
@@ -93,9 +97,12 @@ module _ (loc : ℕ → List ℕ) (d : Automaton) where
             let r = m.reached q ql in
             let rword = r.1.word in
             let ww = w.1.word in
-            let hu = All-append (λ z. z < d.letters) r.0 (a ∷ b ∷ w.0) rword (All-cons (λ z. z < d.letters) a (b ∷ w.0) al (All-cons (λ z. z < d.letters) b w.0 bl ww)) in
-            let hv = All-append (λ z. z < d.letters) r.0 (b ∷ a ∷ w.0) rword (All-cons (λ z. z < d.letters) b (a ∷ w.0) bl (All-cons (λ z. z < d.letters) a w.0 al ww)) in
-            let s : IsSwap loc (r.0 ++ a ∷ b ∷ w.0) (r.0 ++ b ∷ a ∷ w.0) = record { before = r.0; left = a; right = b; after = w.0; apart = ind; from = refl; to = refl } in
+            let hu = All-append (λ z. z < d.letters) r.0 (a ∷ b ∷ w.0) rword
+            (All-cons (λ z. z < d.letters) a (b ∷ w.0) al (All-cons (λ z. z < d.letters) b w.0 bl ww)) in
+            let hv = All-append (λ z. z < d.letters) r.0 (b ∷ a ∷ w.0) rword
+            (All-cons (λ z. z < d.letters) b (a ∷ w.0) bl (All-cons (λ z. z < d.letters) a w.0 al ww)) in
+            let s : IsSwap loc (r.0 ++ a ∷ b ∷ w.0) (r.0 ++ b ∷ a ∷ w.0) =
+            record { before = r.0; left = a; right = b; after = w.0; apart = ind; from = refl; to = refl } in
             let e = c (r.0 ++ a ∷ b ∷ w.0) (r.0 ++ b ∷ a ∷ w.0) hu hv (swap-sound loc _ _ s) in
             let ea = ap (λ z. d.accepts (walk d.step (d.step (d.step z a) b) w.0)) r.1.there in
             let eb = ap (λ z. d.accepts (walk d.step (d.step (d.step z b) a) w.0)) r.1.there in

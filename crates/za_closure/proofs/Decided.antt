@@ -75,7 +75,8 @@ break_of_first dfa minimal of q a b first =
     let bl = first.is.letter in
     let al : a < d.letters = omega arith in
     let ql = first.state in
-    let v = least_apart d total of.minimal (d.step (d.step q a) b) (d.step (d.step q b) a) (total.steps (d.step q a) b (total.steps q a ql al) bl) (total.steps (d.step q b) a (total.steps q b ql bl) al) first.is.parted in
+    let v = least_apart d total of.minimal (d.step (d.step q a) b) (d.step (d.step q b) a) (total.steps (d.step q a) b (total.steps q a ql al) bl)
+    (total.steps (d.step q b) a (total.steps q b ql bl) al) first.is.parted in
     let k : Break = record { before = word_at of.access q; left = a; right = b; after = v.0 } in
     let least = first-is-least (loc_of minimal.alphabet) d total of.access of.numbered q a b v.0 first v.1 in
     let letters : length minimal.alphabet.letters ≡ length dfa.alphabet.letters = ap (λ x. length x.letters) of.alphabet in

@@ -1,5 +1,6 @@
 -- Clap takes words that are not foreign exactly as the definition does.
-use Rattle.std.proofs.Common.{◌≡◌, ◌∙◌, ℕ, Bool, true, false, ◌||◌, List, [], ◌∷◌, ◌++◌, Option, Some, None, codes, refl, sym, ap, subst, inl, inr, option_map, true≢false}
+use Rattle.std.proofs.Common.{◌≡◌, ◌∙◌, ℕ, Bool, true, false, ◌||◌, List, [], ◌∷◌, ◌++◌, Option, Some, None, codes, refl, sym, ap, subst, inl, inr, option_map}
+use Rattle.std.proofs.Common.{true≢false}
 use Rattle.std.specs.List.{fold, list_any}
 use Rattle.std.specs.Prelude.{slice_get, if◌then◌else◌}
 use Rattle.clap.specs.Walk.{Held, Row, Text, Walk, idle, option, settled, reacted, walked, finished, first_of, nothing_held}
@@ -15,7 +16,8 @@ use Rattle.clap.specs.Simple.{built}
 use Rattle.za_command.specs.Private.Command.{Texts, command_app, plan_of_texts, texts_in}
 use Rattle.za_command.specs.Plans.{Parts, begins_with_hyphen, is_foreign, parts_from, plan_of, plan_of_lists, plan_of_parts, cache_of, with_value, with_word}
 use Rattle.za_command.specs.declared.plan.Plan.{Plan}
-use Rattle.za_command.proofs.Walk.{top, rules, cache_rule, walk_at, with_pending, first_word, second_word, third_word, option_alone, option_value, option_joined, alone_for_value, joined_for_value, value_missing}
+use Rattle.za_command.proofs.Walk.{top, rules, cache_rule, walk_at, with_pending, first_word, second_word, third_word, option_alone, option_value}
+use Rattle.za_command.proofs.Walk.{option_joined, alone_for_value, joined_for_value, value_missing}
 use Rattle.za_command.proofs.Rows.{HasFirst, after_use, after_other, use_adds}
 use Rattle.za_command.proofs.Spellings.{IsSpelling, spelled, parts_plain, two_values, three_words, bad_value, option_is_no_number}
 
@@ -122,8 +124,10 @@ took_command w v h holds =
     let adds = use_adds (codes "command") w reading.AsWritten rows holds.command.has in
     record {
       command = subst (HasFirst (codes "command") (Some w)) (sym adds) (after_use (codes "command") w reading.AsWritten rows refl holds.command);
-      number = subst (HasFirst (codes "number") None) (sym adds) (after_other (codes "number") (codes "command") w None reading.AsWritten rows refl holds.number);
-      cache = subst (HasFirst (codes "cache") (slice_get (values_of v) 0)) (sym adds) (after_other (codes "cache") (codes "command") w _ reading.AsWritten rows refl holds.cache);
+      number = subst (HasFirst (codes "number") None) (sym adds)
+          (after_other (codes "number") (codes "command") w None reading.AsWritten rows refl holds.number);
+      cache = subst (HasFirst (codes "cache") (slice_get (values_of v) 0)) (sym adds)
+          (after_other (codes "cache") (codes "command") w _ reading.AsWritten rows refl holds.cache);
       clean = rw holds.command.has refl;
     }
 
@@ -132,9 +136,11 @@ took_number a w v h holds =
     let rows = (settled rules h).rows in
     let adds = use_adds (codes "number") w reading.AsWritten rows holds.number.has in
     record {
-      command = subst (HasFirst (codes "command") (Some a)) (sym adds) (after_other (codes "command") (codes "number") w _ reading.AsWritten rows refl holds.command);
+      command = subst (HasFirst (codes "command") (Some a)) (sym adds)
+          (after_other (codes "command") (codes "number") w _ reading.AsWritten rows refl holds.command);
       number = subst (HasFirst (codes "number") (Some w)) (sym adds) (after_use (codes "number") w reading.AsWritten rows refl holds.number);
-      cache = subst (HasFirst (codes "cache") (slice_get (values_of v) 0)) (sym adds) (after_other (codes "cache") (codes "number") w _ reading.AsWritten rows refl holds.cache);
+      cache = subst (HasFirst (codes "cache") (slice_get (values_of v) 0)) (sym adds)
+          (after_other (codes "cache") (codes "number") w _ reading.AsWritten rows refl holds.cache);
       clean = rw holds.number.has refl;
     }
 
@@ -143,8 +149,10 @@ took_value ws w h holds =
     let rows = (settled rules h).rows in
     let adds = use_adds (codes "cache") w reading.AsWritten rows holds.cache.has in
     record {
-      command = subst (HasFirst (codes "command") (slice_get (words_of ws) 0)) (sym adds) (after_other (codes "command") (codes "cache") w _ reading.AsWritten rows refl holds.command);
-      number = subst (HasFirst (codes "number") (slice_get (words_of ws) 1)) (sym adds) (after_other (codes "number") (codes "cache") w _ reading.AsWritten rows refl holds.number);
+      command = subst (HasFirst (codes "command") (slice_get (words_of ws) 0)) (sym adds)
+          (after_other (codes "command") (codes "cache") w _ reading.AsWritten rows refl holds.command);
+      number = subst (HasFirst (codes "number") (slice_get (words_of ws) 1)) (sym adds)
+          (after_other (codes "number") (codes "cache") w _ reading.AsWritten rows refl holds.number);
       cache = subst (HasFirst (codes "cache") (Some w)) (sym adds) (after_use (codes "cache") w reading.AsWritten rows refl holds.cache);
       clean = rw holds.cache.has refl;
     }
@@ -155,10 +163,12 @@ took_joined ws w h holds =
     record { command = once.command; number = once.number; cache = once.cache; clean = refl }
 
 -- a second value
-second_value : (ws : Words) (u w : Text) (h : Held) → Holds ws (value u) h → settle_fault rules false (with_pending (codes "cache") (w ∷ []) h) ≡ kind.ArgumentConflict ∷ []
+second_value : (ws : Words) (u w : Text) (h : Held) → Holds ws (value u) h →
+    settle_fault rules false (with_pending (codes "cache") (w ∷ []) h) ≡ kind.ArgumentConflict ∷ []
 second_value ws u w h holds = rw holds.cache.has refl
 
-second_joined : (ws : Words) (u w : Text) (h : Held) → Holds ws (value u) h → or_else (react_fault rules false cache_rule (w ∷ []) h) [] ≡ kind.ArgumentConflict ∷ []
+second_joined : (ws : Words) (u w : Text) (h : Held) → Holds ws (value u) h →
+    or_else (react_fault rules false cache_rule (w ∷ []) h) [] ≡ kind.ArgumentConflict ∷ []
 second_joined ws u w h holds = rw (holds.clean, holds.cache.has) refl
 
 first_joined : (ws : Words) (w : Text) (h : Held) → Holds ws no h → or_else (react_fault rules false cache_rule (w ∷ []) h) [] ≡ []
@@ -203,7 +213,8 @@ unfolding walk_fault
 ends ws v h holds =
     rw (end_is h, holds.clean, finished_is h, holds.command.first, holds.number.first, holds.cache.first) (both ws v)
   where
-    both : (ws : Words) (v : Value) → plan_of_texts (record { command = slice_get (words_of ws) 0; number = slice_get (words_of ws) 1; cache = slice_get (values_of v) 0 })
+    both : (ws : Words) (v : Value) →
+        plan_of_texts (record { command = slice_get (words_of ws) 0; number = slice_get (words_of ws) 1; cache = slice_get (values_of v) 0 })
         ≡ plan_of_lists (words_of ws ++ []) (values_of v ++ [])
     both none no = refl
     both none (value v) = refl
@@ -243,10 +254,12 @@ more_words a b w v (Some parts) = three_words a b w parts.words (values_of v ++ 
 
 -- what the words that are left come to, wherever the walk stands
 abbrev Reads : List Text → Type 0
-Reads rest = (waits : Bool) (ws : Words) (v : Value) (h : Held) → Holds ws v h → ComesTo (place waits h (position_of ws)) rest (plan_after ws v (parts_from waits rest))
+Reads rest = (waits : Bool) (ws : Words) (v : Value) (h : Held) → Holds ws v h →
+    ComesTo (place waits h (position_of ws)) rest (plan_after ws v (parts_from waits rest))
 
 abbrev ReadsWord : Bool → Text → List Text → Type 0
-ReadsWord waits w rest = (ws : Words) (v : Value) (h : Held) → Holds ws v h → ComesTo (place waits h (position_of ws)) (w ∷ rest) (plan_after ws v (parts_from waits (w ∷ rest)))
+ReadsWord waits w rest = (ws : Words) (v : Value) (h : Held) → Holds ws v h →
+    ComesTo (place waits h (position_of ws)) (w ∷ rest) (plan_after ws v (parts_from waits (w ∷ rest)))
 
 as_plan : (w : Walk) (words : List Text) (p q : Option Plan) → p ≡ q → ComesTo w words p → ComesTo w words q
 as_plan w words p q e c = c ∙ e
@@ -266,7 +279,8 @@ reads_word w rest plain next (two a b) v h holds =
 
 reads_alone : (rest : List Text) → Reads rest → ReadsWord false (codes "--cache") rest
 reads_alone rest next ws v h holds =
-    step_passes _ _ (codes "--cache") rest _ (option_alone h (position_of ws)).0 ((option_alone h (position_of ws)).1 ∙ or_nil (settle_fault rules false h) ∙ holds.clean)
+    step_passes _ _ (codes "--cache") rest _ (option_alone h (position_of ws)).0 ((option_alone h (position_of ws)).1 ∙ or_nil (settle_fault rules false h)
+    ∙ holds.clean)
     (next true ws v h holds)
 
 reads_joined : (u : Text) (rest : List Text) → Reads rest → ReadsWord false (codes "--cache=" ++ u) rest
@@ -291,7 +305,8 @@ reads_option_value w rest (inl is) = subst (λ (x : Text). ReadsWord true x rest
     as_plan _ (codes "--cache" ∷ rest) _ _ (sym (no_number ws v (codes "--cache") (parts_from false rest) (option_is_no_number (codes "cache"))))
     (step_fails _ (codes "--cache") rest kind.InvalidValue [] (alone_for_value h (position_of ws))))
 reads_option_value w rest (inr is) = subst (λ (x : Text). ReadsWord true x rest) (sym is.1) (λ ws v h holds.
-    as_plan _ ((codes "--cache=" ++ is.0) ∷ rest) _ _ (sym (no_number ws v (codes "--cache=" ++ is.0) (parts_from false rest) (option_is_no_number (codes "cache=" ++ is.0))))
+    as_plan _ ((codes "--cache=" ++ is.0) ∷ rest) _ _
+    (sym (no_number ws v (codes "--cache=" ++ is.0) (parts_from false rest) (option_is_no_number (codes "cache=" ++ is.0))))
     (step_fails _ (codes "--cache=" ++ is.0) rest kind.InvalidValue [] (joined_for_value is.0 h (position_of ws))))
 
 reads_idle : (w : Text) (rest : List Text) → is_foreign w ≡ false → Reads rest → ReadsWord false w rest

@@ -1,7 +1,9 @@
 -- The words that are not foreign, and plans of lists that are in no form.
-use Rattle.std.proofs.Common.{◌≡◌, ◌∙◌, ◌⊎◌, ℕ, Bool, true, false, ◌==◌, ◌&&◌, List, [], ◌∷◌, ◌++◌, Option, Some, None, codes, refl, sym, ap, ap₂, cond, inl, inr, option_map, true≢false, eqb-true}
+use Rattle.std.proofs.Common.{◌≡◌, ◌∙◌, ◌⊎◌, ℕ, Bool, true, false, ◌==◌, ◌&&◌, List, [], ◌∷◌, ◌++◌, Option, Some, None, codes, refl, sym, ap, ap₂, cond, inl}
+use Rattle.std.proofs.Common.{inr, option_map, true≢false, eqb-true}
 use Rattle.std.specs.Prelude.{option_and_then}
-use Rattle.za_command.specs.Plans.{Text, neither, after_prefix, spelling_by, spelling, is_neither, begins_with_hyphen, is_foreign, parts_from, plan_of_lists, plan_with, cache_of, with_word}
+use Rattle.za_command.specs.Plans.{Text, neither, after_prefix, spelling_by, spelling, is_neither, begins_with_hyphen, is_foreign, parts_from, plan_of_lists}
+use Rattle.za_command.specs.Plans.{plan_with, cache_of, with_word}
 
 and_false : (b : Bool) → (b && false) ≡ false
 and_false true = refl
@@ -27,14 +29,16 @@ IsSpelling word = (word ≡ codes "--cache") ⊎ ((value : Text) × (word ≡ co
 pub spelled : (word : Text) → is_foreign word ≡ false → IsSpelling word ⊎ (begins_with_hyphen word ≡ false)
 spelled word known = go (after_prefix (codes "--cache") word) refl
   where
-    plain : (o : Option Text) → after_prefix (codes "--cache") word ≡ o → is_neither (spelling_by o) ≡ true → IsSpelling word ⊎ (begins_with_hyphen word ≡ false)
+    plain : (o : Option Text) → after_prefix (codes "--cache") word ≡ o → is_neither (spelling_by o) ≡ true → IsSpelling word
+        ⊎ (begins_with_hyphen word ≡ false)
     plain o is lone = inr (at (begins_with_hyphen word) refl)
       where
         at : (b : Bool) → begins_with_hyphen word ≡ b → begins_with_hyphen word ≡ false
         at false e = e
         at true e = absurd (true≢false (sym (ap₂ (λ x y. x && y) e (ap (λ x. is_neither (spelling_by x)) is ∙ lone)) ∙ known))
 
-    value : (b : ℕ) (v : Text) (t : Bool) → (b == 61) ≡ t → after_prefix (codes "--cache") word ≡ Some (b ∷ v) → IsSpelling word ⊎ (begins_with_hyphen word ≡ false)
+    value : (b : ℕ) (v : Text) (t : Bool) → (b == 61) ≡ t → after_prefix (codes "--cache") word ≡ Some (b ∷ v) → IsSpelling word
+        ⊎ (begins_with_hyphen word ≡ false)
     value b v true eq is = inl (inr (v, prefix_is (codes "--cache") word (b ∷ v) is ∙ ap (λ x. codes "--cache" ++ x ∷ v) (eqb-true _ _ eq)))
     value b v false eq is = plain (Some (b ∷ v)) is (rw eq refl)
 

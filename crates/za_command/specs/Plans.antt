@@ -6,7 +6,8 @@ use Rattle.std.specs.Str.{bytes_eq}
 use Rattle.za_text.specs.Numbers.{numeral_value}
 use Rattle.za_command.specs.Limits.{most_cache_rows}
 use Rattle.za_command.specs.declared.plan.Plan.{Plan}
-use Rattle.za_command.specs.declared.plan.Plan.TheVariants.{Solo, Run, Check, Locals, Journal, Audit, Gen}
+use Rattle.za_command.specs.declared.plan.Plan.TheVariants.{Solo, Run, Check, Locals, Journal, Audit, Build, News, Thaw, Gen}
+use Rattle.za_command.specs.declared.plan.Plan.TheVariants.{Freeze}
 
 -- a command word, as its bytes
 abbrev pub Text : Type 0
@@ -85,11 +86,20 @@ plan_with name rows =
 
 -- one word without the option: without it there are no cache rows
 abbrev pub plan_of_word : Text → Option Plan
-plan_of_word name = if bytes_eq name (codes "audit") then Some Audit else plan_with name 0
+plan_of_word name =
+    if bytes_eq name (codes "audit") then Some Audit
+    else (if bytes_eq name (codes "build") then Some Build
+    else (if bytes_eq name (codes "news") then Some News
+    else (if bytes_eq name (codes "thaw") then Some Thaw else plan_with name 0)))
 
--- `gen` and a number
+-- a command that takes a number
+abbrev pub plan_with_number : Text → ℕ → Option Plan
+plan_with_number name n =
+    if bytes_eq name (codes "gen") then Some (Gen n)
+    else (if bytes_eq name (codes "freeze") then Some (Freeze n) else None)
+
 abbrev pub plan_of_pair : Text → Text → Option Plan
-plan_of_pair name word = if bytes_eq name (codes "gen") then option_map (λ n. Gen n) (numeral_value word) else None
+plan_of_pair name word = option_and_then (plan_with_number name) (numeral_value word)
 
 abbrev pub plan_of_lists : List Text → List Text → Option Plan
 plan_of_lists (name ∷ []) [] = plan_of_word name

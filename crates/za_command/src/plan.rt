@@ -3,7 +3,7 @@
 ghost use Rattle.std.specs.Prelude.{◌≡◌, MatchResult, Some, None, map, not, string_bytes};
 ghost use Rattle.std.specs.List.{list_any};
 ghost use Rattle.za_command.specs.Private.Command.{plan_of_texts, texts_of};
-ghost use Rattle.za_command.specs.Plans.{is_foreign, is_neither, plan_of, plan_of_pair, plan_of_word, plan_with};
+ghost use Rattle.za_command.specs.Plans.{is_foreign, is_neither, plan_of, plan_of_pair, plan_of_word, plan_with, plan_with_number};
 ghost use Rattle.za_command.specs.Plans.{cache_of, spelling};
 
 use crate::command::{Found, found_in};
@@ -23,7 +23,11 @@ pub enum Plan {
     Locals { cache: u8 },
     Journal { cache: u8 },
     Audit,
+    Build,
+    News,
+    Thaw,
     Gen { number: u32 },
+    Freeze { cut: u32 },
 }
 
 /// Why there is no plan: the command words are in no form, or for want of memory.
@@ -89,24 +93,31 @@ fn plan_with(name: &str, rows: u8) -> Option<Plan>
 fn plan_of_word(name: &str) -> Option<Plan>
     ensures { result ≡ plan_of_word name.now }
 {
-    if name == "audit" {
-        Some(Plan::Audit)
-    } else {
-        plan_with(name, 0)
+    match name {
+        "audit" => Some(Plan::Audit),
+        "build" => Some(Plan::Build),
+        "news" => Some(Plan::News),
+        "thaw" => Some(Plan::Thaw),
+        _ => plan_with(name, 0),
     }
 }
 
-/// What two command words ask for: `gen` and a number.
+/// What a command asks for that takes this number.
+fn plan_with_number(name: &str, n: u32) -> Option<Plan>
+    ensures { result ≡ plan_with_number name.now n }
+{
+    match name {
+        "gen" => Some(Plan::Gen { number: n }),
+        "freeze" => Some(Plan::Freeze { cut: n }),
+        _ => None,
+    }
+}
+
+/// What two command words ask for: a command and a number.
 fn plan_of_pair(name: &str, word: &str) -> Option<Plan>
     ensures { result ≡ plan_of_pair name.now word.now }
 {
-    if name == "gen" {
-        Some(Plan::Gen {
-            number: number(word.as_bytes())?,
-        })
-    } else {
-        None
-    }
+    plan_with_number(name, number(word.as_bytes())?)
 }
 
 /// What is asked for by what clap found.
@@ -124,11 +135,11 @@ fn plan_of_found(found: Found) -> Option<Plan>
 /// What the command words ask for, those after the program's name.
 ///
 /// The cache option is the word `--cache` and the word after it, or one word `--cache=C`. It stands at
-/// most once, at any place. Without it there is one word, `solo`, `run`, `check`, `locals`, `journal`
-/// or `audit`, or there are the two words `gen` and `N`. The option goes with `solo`, `run`, `check`,
-/// `locals` and `journal` alone; without it there are no cache rows. `C` is a decimal number from 0 to
-/// 64 and `N` one from 0 to 4294967295, both without sign and without a leading zero, but for `0`
-/// itself. Any other word that begins with `-` is in no form.
+/// most once, at any place. Without it there is one word, `solo`, `run`, `check`, `locals`, `journal`,
+/// `audit`, `build`, `news` or `thaw`, or there are two words, `gen` and `N` or `freeze` and `K`. The
+/// option goes with `solo`, `run`, `check`, `locals` and `journal` alone; without it there are no cache
+/// rows. `C` is a decimal number from 0 to 64 and `N` and `K` are ones from 0 to 4294967295, all without
+/// sign and without a leading zero, but for `0` itself. Any other word that begins with `-` is in no form.
 ///
 /// `Usage` comes exactly where the command words are in no form. Want of memory is the one free answer.
 pub fn read_words(alloc: Global, words: &[String]) -> Result<Plan, WordsFault>

@@ -28,13 +28,17 @@ fn are_read(rt: &impl Abort, alloc: Global, cases: &[Case]) -> Result<(), AllocE
 
 #[test]
 fn each_form(rt: HostRuntime) -> Result<(), Fail> {
-    let cases: [Case; 13] = [
+    let cases: [Case; 17] = [
         (&["solo"], Some(Plan::Solo { cache: 0 })),
         (&["run"], Some(Plan::Run { cache: 0 })),
         (&["check"], Some(Plan::Check { cache: 0 })),
         (&["locals"], Some(Plan::Locals { cache: 0 })),
         (&["journal"], Some(Plan::Journal { cache: 0 })),
         (&["audit"], Some(Plan::Audit)),
+        (&["build"], Some(Plan::Build)),
+        (&["news"], Some(Plan::News)),
+        (&["thaw"], Some(Plan::Thaw)),
+        (&["freeze", "0"], Some(Plan::Freeze { cut: 0 })),
         (&["gen", "7"], Some(Plan::Gen { number: 7 })),
         (
             &["gen", "4294967295"],
@@ -55,7 +59,7 @@ fn each_form(rt: HostRuntime) -> Result<(), Fail> {
 
 #[test]
 fn words_in_no_form(rt: HostRuntime) -> Result<(), Fail> {
-    let cases: [Case; 20] = [
+    let cases: [Case; 24] = [
         (&[], None),
         (&[""], None),
         (&["Solo"], None),
@@ -64,6 +68,10 @@ fn words_in_no_form(rt: HostRuntime) -> Result<(), Fail> {
         (&["run", "--cache=65"], None),
         (&["run", "--cache", "1", "--cache=1"], None),
         (&["audit", "--cache", "1"], None),
+        (&["build", "--cache=0"], None),
+        (&["thaw", "2"], None),
+        (&["freeze"], None),
+        (&["freeze", "02"], None),
         (&["gen"], None),
         (&["gen", "07"], None),
         (&["gen", "4294967296"], None),

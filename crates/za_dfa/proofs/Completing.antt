@@ -1,5 +1,6 @@
 -- What the completion of a partial table is.
-use Rattle.std.proofs.Common.{◌≡◌, ℕ, zero, suc, ◌+◌, ◌*◌, ◌<◌, ◌≤◌, Bool, true, false, ◌&&◌, cond, List, [], ◌∷◌, ◌++◌, length, map, replicate, get_or, Option, Some, None, refl, ap, ◌∙◌, arith, length-append}
+use Rattle.std.proofs.Common.{◌≡◌, ℕ, zero, suc, ◌+◌, ◌*◌, ◌<◌, ◌≤◌, Bool, true, false, ◌&&◌, cond, List, [], ◌∷◌, ◌++◌, length, map, replicate, get_or, Option}
+use Rattle.std.proofs.Common.{Some, None, refl, ap, ◌∙◌, arith, length-append}
 use Rattle.std.specs.Prelude.{All, is_some, unwrap_or, nat_lt, slice_index_or}
 use Rattle.std.specs.List.{list_all}
 use Rattle.std.proofs.lemmas.Bool.Decides.{nat_tests}
@@ -104,7 +105,8 @@ step_of_completion partial q a size hq ha =
     let total = (completion partial).states in
     let inside : q * m + a < total * m = let cell = mul-add-lt q m a total hq ha in omega arith in
     let here : (nat_lt q total && nat_lt a m) ≡ true = grind (arith, nat_tests) in
-    ap (λ known. cond known (target_at (completion partial) q a) q) here ∙ filled_target partial.targets partial.states m size (is_whole partial) (q * m + a) inside
+    ap (λ known. cond known (target_at (completion partial) q a) q) here
+    ∙ filled_target partial.targets partial.states m size (is_whole partial) (q * m + a) inside
 
 -- the parts of the completed table, where it is known whether a state is added
 pub completion_by : (partial : PartialDfa) (whole : Bool) → is_whole partial ≡ whole →
@@ -137,7 +139,8 @@ given_back (t ∷ targets) n = ap (λ ts. t ∷ ts) (given_back targets n)
 -- the completion of a complete table is the table
 pub whole_completes : (d : CompleteDfa) → completion (whole_of d) ≡ d
 whole_completes d =
-    let with : List ℕ → CompleteDfa = λ targets. record { alphabet = d.alphabet; states = d.states; start = d.start; accepting = d.accepting; targets = targets } in
+    let with : List ℕ → CompleteDfa =
+    λ targets. record { alphabet = d.alphabet; states = d.states; start = d.start; accepting = d.accepting; targets = targets } in
     completion_by (whole_of d) true (all_some d.targets) ∙ ap with (given_back d.targets d.states)
 
 target_there : (targets : List ℕ) (n i t : ℕ) → All (λ r. r < n) targets → slice_index_or (map (λ (r : ℕ). Some r) targets) i None ≡ Some t → t < n

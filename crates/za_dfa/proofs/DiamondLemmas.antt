@@ -31,8 +31,19 @@ pub broken_of_first : (loc : ℕ → List ℕ) (d : Automaton) (q a b : ℕ) →
 broken_of_first loc d q a b first =
     let order = first.is.order in
     let letter = first.is.letter in
-    record { state = q; left = a; right = b; is_state = first.state; is_left = omega arith; is_right = letter; apart = first.is.apart; parted = first.is.parted }
+    record {
+      state = q;
+      left = a;
+      right = b;
+      is_state = first.state;
+      is_left = omega arith;
+      is_right = letter;
+      apart = first.is.apart;
+      parted =
+          first.is.parted;
+    }
 
 -- where a diamond is broken, not all are there
 pub no_diamonds_of_broken : (loc : ℕ → List ℕ) (d : Automaton) → BreaksDiamond loc d → HasDiamonds loc d → ⊥
-no_diamonds_of_broken loc d broken diamonds = broken.parted (diamonds broken.state broken.left broken.right broken.is_state broken.is_left broken.is_right broken.apart)
+no_diamonds_of_broken loc d broken diamonds =
+    broken.parted (diamonds broken.state broken.left broken.right broken.is_state broken.is_left broken.is_right broken.apart)

@@ -39,6 +39,7 @@ diamonds_keep_the_state loc processes d q u v al t diamonds l hu hv e =
     swaps-state loc d t diamonds q l ((equivalence_is_swapping loc d.letters processes u v al hu hv).0 e) hu
 
 pub diamonds_close_the_language : DiamondsCloseTheLanguage
-diamonds_close_the_language loc processes d al t diamonds u v hu hv e = ap d.accepts (diamonds_keep_the_state loc processes d d.start u v al t diamonds t.starts hu hv e)
+diamonds_close_the_language loc processes d al t diamonds u v hu hv e =
+    ap d.accepts (diamonds_keep_the_state loc processes d d.start u v al t diamonds t.starts hu hv e)
 
 pub ruleset diamond_laws = (diamonds_keep_the_state, diamonds_close_the_language)

@@ -1,5 +1,6 @@
 -- Rows one after another, and the partial tables into which they are entered.
-use Rattle.std.proofs.Common.{◌≡◌, ◌∙◌, ap, sym, refl, ℕ, zero, suc, ◌+◌, ◌*◌, ◌/◌, ◌%◌, ◌<◌, ◌≤◌, Bool, true, false, not, ◌&&◌, ◌||◌, cond, List, [], ◌∷◌, ◌++◌, length, get_or, set, map, replicate, arith, Option, Some, None, inl, inr, append_assoc, length-set, get_or-set_other}
+use Rattle.std.proofs.Common.{◌≡◌, ◌∙◌, ap, sym, refl, ℕ, zero, suc, ◌+◌, ◌*◌, ◌/◌, ◌%◌, ◌<◌, ◌≤◌, Bool, true, false, not, ◌&&◌, ◌||◌, cond, List, [], ◌∷◌}
+use Rattle.std.proofs.Common.{◌++◌, length, get_or, set, map, replicate, arith, Option, Some, None, inl, inr, append_assoc, length-set, get_or-set_other}
 use Rattle.std.specs.Prelude.{◌==◌, slice_index_or, unwrap_or}
 use Rattle.std.specs.List.{range_with_len}
 use Rattle.std.specs.Option.{option_or}
@@ -47,7 +48,9 @@ rows_fault-more : (states : ℕ) (before rows : List Row) (row : Row) →
     rows_fault states before (rows ++ row ∷ []) ≡ option_or (rows_fault states before rows) (row_fault states (before ++ rows) row)
 rows_fault-more states before [] row = or_none (row_fault states before row) ∙ ap (λ rows. row_fault states rows row) (sym (append-nil before))
 rows_fault-more states before (r ∷ rows) row =
-    ap (option_or (row_fault states before r)) (rows_fault-more states (before ++ r ∷ []) rows row ∙ ap (λ rs. option_or (rows_fault states (before ++ r ∷ []) rows) (row_fault states rs row)) (append_assoc before (r ∷ []) rows))
+    ap (option_or (row_fault states before r))
+    (rows_fault-more states (before ++ r ∷ []) rows row
+    ∙ ap (λ rs. option_or (rows_fault states (before ++ r ∷ []) rows) (row_fault states rs row)) (append_assoc before (r ∷ []) rows))
     ∙ or_assoc (row_fault states before r) (rows_fault states (before ++ r ∷ []) rows) (row_fault states (before ++ r ∷ rows) row)
 
 has_other-more : (rows : List Row) (row : Row) (q a r : ℕ) → has_other (rows ++ row ∷ []) q a r ≡ (has_other rows q a r || (is_at q a row && not (row.to == r)))
@@ -111,7 +114,8 @@ cells_of-more states letters rows row from known right =
     let inside : cell < length old = let c = mul-add-lt row.from letters row.letter.0 states from known in omega arith in
     let q = div-mul-add row.from letters row.letter.0 known in
     let a = mod-mul-add row.from letters row.letter.0 known in
-    ext_get_or None (set old cell (Some row.to)) (cells_of states letters (rows ++ row ∷ [])) (length-set old cell (Some row.to) ∙ long ∙ sym (length-map-range_with_len g 0 n))
+    ext_get_or None (set old cell (Some row.to)) (cells_of states letters (rows ++ row ∷ []))
+    (length-set old cell (Some row.to) ∙ long ∙ sym (length-map-range_with_len g 0 n))
     (λ i h.
     let below : i < n = let l = length-set old cell (Some row.to) in omega arith in
     let new : get_or (cells_of states letters (rows ++ row ∷ [])) i None ≡ option_or (f i) (cond (is_at (i / letters) (i % letters) row) (Some row.to) None) =
@@ -121,7 +125,8 @@ cells_of-more states letters rows row from known right =
           let here : is_at (i / letters) (i % letters) row ≡ true = rw (e, q, a) (grind (arith, nat_tests)) in
           let there : f i ≡ target_in rows row.from row.letter.0 = rw (e, q, a) refl in
           get_or-set_at old cell i (Some row.to) None e inside
-          ∙ sym (new ∙ ap (λ u. option_or (f i) (cond u (Some row.to) None)) here ∙ ap (λ o. option_or o (Some row.to)) there ∙ or_same (target_in rows row.from row.letter.0) row.to right)
+          ∙ sym (new ∙ ap (λ u. option_or (f i) (cond u (Some row.to) None)) here ∙ ap (λ o. option_or o (Some row.to)) there
+          ∙ or_same (target_in rows row.from row.letter.0) row.to right)
       | inr other ↦
           let away : is_at (i / letters) (i % letters) row ≡ false =
           elim (cases_Bool (is_at (i / letters) (i % letters) row)) [
@@ -151,7 +156,8 @@ module _ (partial : PartialDfa) (rows : List Row) (h : AreEntered partial rows) 
   -- a letter leads where the rows say
   pub target_of_entered : (q a : ℕ) → q < partial.states → a < length partial.alphabet.letters → target_of partial q a ≡ target_in rows q a
   target_of_entered q a hq ha =
-      ap (λ cells. slice_index_or cells (q * length partial.alphabet.letters + a) None) h.cells ∙ cell_at partial.states (length partial.alphabet.letters) rows q a hq ha
+      ap (λ cells. slice_index_or cells (q * length partial.alphabet.letters + a) None) h.cells
+      ∙ cell_at partial.states (length partial.alphabet.letters) rows q a hq ha
 
   -- whether a row has another target is seen in the table
   pub other_of_entered : (q a r : ℕ) → q < partial.states → a < length partial.alphabet.letters → has_other rows q a r ≡ is_other (target_of partial q a) r
@@ -184,7 +190,8 @@ module _ (alphabet : DistributedAlphabet) (states start : ℕ) (accepting : List
   pub step_of_completed : (q : ℕ) → q < states → step_of (completed alphabet states start accepting rows) q a ≡ unwrap_or (target_in rows q a) states
   step_of_completed q hq =
       let all = bounds (is_whole (partial_of alphabet states start accepting rows)) in
-      step_of_completion (partial_of alphabet states start accepting rows) q a size (omega arith) ha ∙ ap (λ o. unwrap_or o states) (cell_at states m rows q a hq ha)
+      step_of_completion (partial_of alphabet states start accepting rows) q a size (omega arith) ha
+      ∙ ap (λ o. unwrap_or o states) (cell_at states m rows q a hq ha)
 
   -- the added state leads to itself
   pub step_of_added : states < (completed alphabet states start accepting rows).states →

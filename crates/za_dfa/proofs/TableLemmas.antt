@@ -11,7 +11,8 @@ total_of_complete d whole =
     record {
       starts = whole.starts;
       steps = λ q a hq ha.
-          let inside : q * length d.alphabet.letters + a < length d.targets = let cell = mul-add-lt q (length d.alphabet.letters) a d.states hq ha in let size = whole.targets_length in omega arith in
+          let inside : q * length d.alphabet.letters + a < length d.targets = let cell = mul-add-lt q (length d.alphabet.letters) a d.states hq ha in let size =
+          whole.targets_length in omega arith in
           let below : target_at d q a < d.states = whole.targets_below (q * length d.alphabet.letters + a) 0 inside in
           grind (arith, nat_tests);
     }

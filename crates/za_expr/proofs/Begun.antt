@@ -26,7 +26,7 @@ use Rattle.za_form.specs.Expressions.{letter_at, IsExpressionOf}
 use Rattle.za_form.specs.Automata.{IsValueDfa}
 use Rattle.za_expr.specs.Built.{alphabet_said}
 use Rattle.za_expr.specs.Expressions.{IsNarrow, HasExpressionFault}
-use Rattle.za_expr.specs.Private.Keeping.{more_with, IsTable, IsBegunJob, IsGoing}
+use Rattle.za_expr.specs.Private.Keeping.{more_with, IsExpressionTable, IsBegunJob, IsGoing}
 
 -- rows that fit one after the other are right
 rows_right : (states : ℕ) (letters : List NamedLetter) (front rows : List Row) → AreRows states letters front rows → rows_fault states front rows ≡ None
@@ -41,7 +41,8 @@ rows_right states letters front (row ∷ rows) h =
     rw (from, to, alone) (rows_right states letters (front ++ row ∷ []) rows h.1)
 
 -- the words of an expression that has a table pass their tests
-pub table_narrow : (alphabet : DistributedAlphabet) (tokens : List (List ℕ)) (dfa : CompleteDfa) → IsTable alphabet tokens dfa → IsNarrow alphabet.letters tokens
+pub table_narrow : (alphabet : DistributedAlphabet) (tokens : List (List ℕ)) (dfa : CompleteDfa) → IsExpressionTable alphabet tokens dfa →
+    IsNarrow alphabet.letters tokens
 table_narrow alphabet tokens dfa h =
     let v = h.values in
     record {
@@ -51,12 +52,13 @@ table_narrow alphabet tokens dfa h =
           v.no_more (subst (λ g. HasMoreValues (letter_at h.signs) g (length alphabet.letters) most_states) (signs_are_one_form h.signs f v.form is v.is) many);
     }
 
-pub begun_right : (alphabet : DistributedAlphabet) (tokens : List (List ℕ)) (dfa : CompleteDfa) → (tokens ≡ [] → ⊥) → IsTable alphabet tokens dfa → HasExpressionFault alphabet.letters tokens None
+pub begun_right : (alphabet : DistributedAlphabet) (tokens : List (List ℕ)) (dfa : CompleteDfa) → (tokens ≡ [] → ⊥) → IsExpressionTable alphabet tokens dfa →
+    HasExpressionFault alphabet.letters tokens None
 begun_right alphabet [] dfa some h = absurd (some refl)
 begun_right alphabet (token ∷ tokens) dfa some h = table_narrow alphabet (token ∷ tokens) dfa h
 
 module _ (naming : Naming) (alphabet : DistributedAlphabet) (tokens : List (List ℕ)) (dfa : CompleteDfa)
-    (size : length naming.names ≡ alphabet.processes) (partial : IsPartial (whole_of dfa)) (table : IsTable alphabet tokens dfa) where
+    (size : length naming.names ≡ alphabet.processes) (partial : IsPartial (whole_of dfa)) (table : IsExpressionTable alphabet tokens dfa) where
   abbrev job : JobData
   job = record { naming = naming; lang = whole_of dfa; scripts = replicate alphabet.processes [] }
 
@@ -97,9 +99,11 @@ module _ (naming : Naming) (alphabet : DistributedAlphabet) (tokens : List (List
 
   lang_is : lang_said told ≡ whole_of dfa
   lang_is =
-      let of : DistributedAlphabet → List Bool → List (Option ℕ) → PartialDfa = λ a bs ts. record { alphabet = a; states = dfa.states; start = dfa.start; accepting = bs; targets = ts } in
+      let of : DistributedAlphabet → List Bool → List (Option ℕ) → PartialDfa =
+      λ a bs ts. record { alphabet = a; states = dfa.states; start = dfa.start; accepting = bs; targets = ts } in
       let letters : length alphabet.letters ≡ length dfa.alphabet.letters = ap (λ (a : DistributedAlphabet). length a.letters) (sym same) in
-      let cells : cells_of dfa.states (length alphabet.letters) told.rows ≡ (whole_of dfa).targets = ap (λ m. cells_of dfa.states m told.rows) letters ∙ targets_back (whole_of dfa) partial in
+      let cells : cells_of dfa.states (length alphabet.letters) told.rows ≡ (whole_of dfa).targets = ap (λ m. cells_of dfa.states m told.rows) letters
+      ∙ targets_back (whole_of dfa) partial in
       ap (λ a. of a (acceptance_of dfa.states told.accepts) (cells_of dfa.states (length alphabet.letters) told.rows)) (alphabet_is ∙ sym same)
       ∙ ap (λ bs. of dfa.alphabet bs (cells_of dfa.states (length alphabet.letters) told.rows)) (accepting_back (whole_of dfa) partial)
       ∙ ap (of dfa.alphabet dfa.accepting) cells
@@ -138,7 +142,8 @@ begun_going names alphabet words tokens made s e none whole begun =
     let start : Said = letters_told naming alphabet in
     let letters : start.letters ++ [] ≡ alphabet.letters = append-nil alphabet.letters in
     let here = going naming alphabet words begun.dfa size partial begun.table (more_with start (codes "expr" ∷ words)) refl refl letters refl in
-    let moved = subst (λ (t : Said). IsGoing AtScripts (job naming alphabet words begun.dfa size partial begun.table) (more_with t (codes "expr" ∷ words)) words) (sym e) here in
+    let moved = subst (λ (t : Said). IsGoing AtScripts (job naming alphabet words begun.dfa size partial begun.table) (more_with t (codes "expr" ∷ words))
+    words) (sym e) here in
     let same : words ≡ tokens ++ words = ap (λ ts. ts ++ words) (sym none) in
     subst (λ (j : JobData). IsGoing AtScripts j (more_with s (codes "expr" ∷ words)) (tokens ++ words)) (sym begun.is)
     (subst (λ ts. IsGoing AtScripts (job naming alphabet words begun.dfa size partial begun.table) (more_with s (codes "expr" ∷ words)) ts) same moved)

@@ -1,5 +1,6 @@
 -- The first wrong line, from the lines before a place.
-use Rattle.std.proofs.Common.{◌≡◌, ◌∙◌, ap, sym, subst, refl, ℕ, ◌+◌, suc, inl, inr, List, [], ◌∷◌, ◌++◌, length, take, drop, add-one, arith, length-append, Option, Some, None}
+use Rattle.std.proofs.Common.{◌≡◌, ◌∙◌, ap, sym, subst, refl, ℕ, ◌+◌, suc, inl, inr, List, [], ◌∷◌, ◌++◌, length, take, drop, add-one, arith, length-append}
+use Rattle.std.proofs.Common.{Option, Some, None}
 use Rattle.std.proofs.lemmas.List.{append-nil, take-append-drop}
 use Rattle.za_text.specs.Lines.{RawLine, lines_of}
 use Rattle.za_text.specs.declared.kind.TextFault.{TextFault}
@@ -9,8 +10,8 @@ use Rattle.za_lang.specs.declared.version.Version.TheVariants.{Two}
 use Rattle.za_lang.specs.Answers.{fault_at}
 use Rattle.za_lang.specs.Documents.{words_in, end_fault}
 use Rattle.za_lang.proofs.Faults.{cut_at}
-use Rattle.za_expr.specs.Built.{IsRefused}
-use Rattle.za_expr.specs.Documents.{place_after, said_with, tokens_by, tokens_in, HasLineFault, HasFirstFault}
+use Rattle.za_expr.specs.Built.{IsBuildFault}
+use Rattle.za_expr.specs.Documents.{place_with, said_with, tokens_by, tokens_in, HasLineFault, HasFirstFault}
 use Rattle.za_expr.specs.Private.Keeping.{more_with, IsWrongBy}
 use Rattle.za_expr.proofs.Saying.{said_more_with, tokens_more}
 
@@ -35,7 +36,8 @@ goes_on all n m left line rest h e right step =
     let before : take m all ≡ take n all ++ line ∷ [] = rw one cut.1 in (
       record {
         left_are = rw one cut.0;
-        faults = λ fault more. h.faults fault (subst (λ ls. HasFirstFault (take n all) ls fault) (sym e) (inr (right, subst (λ ls. HasFirstFault ls rest fault) before more)));
+        faults = λ fault more. h.faults fault
+            (subst (λ ls. HasFirstFault (take n all) ls fault) (sym e) (inr (right, subst (λ ls. HasFirstFault ls rest fault) before more)));
         size = rw before (omega (arith, length-append (take n all) (line ∷ []), h.size));
       },
       ap said_with before ∙ said_more_with (take n all) line,
@@ -44,21 +46,23 @@ goes_on all n m left line rest h e right step =
 
 -- no line is left
 pub ends : (all : List RawLine) (n : ℕ) (left : List RawLine) → AreRead all n left → left ≡ [] →
-    ((fault : Option TextFault) → fault ≡ end_fault (place_after (take n all)) n → HasFirstFault [] all fault) × (take n all ≡ all)
+    ((fault : Option TextFault) → fault ≡ end_fault (place_with (take n all)) n → HasFirstFault [] all fault) × (take n all ≡ all)
 ends all n left h e =
     let split : take n all ++ drop n all ≡ all = take-append-drop n all in
     let none : drop n all ≡ [] = h.left_are ∙ e in
     let whole : take n all ≡ all = sym (append-nil (take n all)) ∙ (rw none at split) in (
-      λ fault is. h.faults fault (subst (λ ls. HasFirstFault (take n all) ls fault) (sym e) (is ∙ ap (end_fault (place_after (take n all))) (sym h.size))),
+      λ fault is. h.faults fault (subst (λ ls. HasFirstFault (take n all) ls fault) (sym e) (is ∙ ap (end_fault (place_with (take n all))) (sym h.size))),
       whole,
     )
 
 -- a wrong line
-pub stops : (bytes : List ℕ) (n number : ℕ) (left : List RawLine) (line : RawLine) (rest : List RawLine) → AreRead (lines_of bytes) n left → left ≡ line ∷ rest →
-    number ≡ n + 1 → (why : Refusal) → IsWrongBy (HasLineFault (said_with (take n (lines_of bytes))) line) why → IsRefused bytes (fault_at number why)
+pub stops : (bytes : List ℕ) (n number : ℕ) (left : List RawLine) (line : RawLine) (rest : List RawLine) → AreRead (lines_of bytes) n left →
+    left ≡ line ∷ rest →
+    number ≡ n + 1 → (why : Refusal) → IsWrongBy (HasLineFault (said_with (take n (lines_of bytes))) line) why → IsBuildFault bytes (fault_at number why)
 stops bytes n number left line rest h e is refusal.OutOfMemory wrong = tt
 stops bytes n number left line rest h e is (refusal.Wrong kind) wrong =
     let before = take n (lines_of bytes) in
     let at : number ≡ length before + 1 = is ∙ ap (λ k. k + 1) (sym h.size) in
     let fault : Option TextFault = Some (record { line = number; kind = kind }) in
-    h.faults fault (subst (λ ls. HasFirstFault before ls fault) (sym e) (inl (record { kind = kind; wrong = wrong; here = ap (λ k. Some (record { line = k; kind = kind })) at })))
+    h.faults fault (subst (λ ls. HasFirstFault before ls fault) (sym e)
+    (inl (record { kind = kind; wrong = wrong; here = ap (λ k. Some (record { line = k; kind = kind })) at })))

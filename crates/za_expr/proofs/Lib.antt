@@ -6,3 +6,7 @@ pub mod Saying
 pub mod Faults
 pub mod Whole
 pub mod OneFault
+pub mod Once
+pub mod Sound
+pub mod Jobs
+pub mod Judged

@@ -1,5 +1,5 @@
 -- A text has one fault, or none.
-use Rattle.std.proofs.Common.{◌≡◌, ◌∙◌, ap, sym, subst, refl, ℕ, ◌<◌, ◌≤◌, Bool, true, false, inl, inr, List, [], ◌∷◌, ◌++◌, length, map, arith, Option, Some, None}
+use Rattle.std.proofs.Common.{◌≡◌, ◌∙◌, ap, sym, subst, refl, ℕ, ◌≤◌, Bool, true, false, inl, inr, List, [], ◌∷◌, ◌++◌, length, map, arith, Option, Some, None}
 use Rattle.std.specs.Prelude.{is_none, is_some}
 use Rattle.std.specs.List.{list_all, list_any}
 use Rattle.za_alpha.specs.Alphabet.{NamedLetter}
@@ -22,7 +22,8 @@ use Rattle.za_expr.specs.Laws.{TextsHaveOneFault}
 -- ---- the tokens of an expression
 
 -- each token is a sign
-signs_known : (letters : List NamedLetter) (tokens : List (List ℕ)) (signs : List Sign) → AreSigns letters tokens signs → list_any (is_unknown letters) tokens ≡ false
+signs_known : (letters : List NamedLetter) (tokens : List (List ℕ)) (signs : List Sign) → AreSigns letters tokens signs →
+    list_any (is_unknown letters) tokens ≡ false
 signs_known letters [] signs h = refl
 signs_known letters (t ∷ ts) [] h = absurd (cc)
 signs_known letters (t ∷ ts) (x ∷ xs) h =
@@ -42,7 +43,7 @@ same_somes (x ∷ xs) (y ∷ ys) h =
 
 module _ (letters : List NamedLetter) (tokens : List (List ℕ)) where
   -- tokens are one list of signs
-  one_signs : (xs ys : List Sign) → AreSigns letters tokens xs → AreSigns letters tokens ys → xs ≡ ys
+  pub one_signs : (xs ys : List Sign) → AreSigns letters tokens xs → AreSigns letters tokens ys → xs ≡ ys
   one_signs xs ys h k = same_somes xs ys (sym h ∙ k)
 
   no_letter_or_signs : (signs : List Sign) → IsFormFault letters tokens form_fault.NoSuchLetter → AreSigns letters tokens signs → ⊥
@@ -54,7 +55,9 @@ module _ (letters : List NamedLetter) (tokens : List (List ℕ)) where
   wide_or_narrow : IsTooWide letters tokens → IsNarrow letters tokens → ⊥
   wide_or_narrow w n =
       let same = one_signs w.signs n.signs w.expression.each n.expression.each in
-      let P : List Sign → Type 0 = λ xs. (f : Form) → IsForm 1 xs f → ¬ Rattle.za_expression.specs.Values.HasMoreValues (Rattle.za_form.specs.Expressions.letter_at xs) f (length letters) Rattle.za_dfa.specs.Limits.most_states in
+      let P : List Sign → Type 0 = λ xs. (f : Form) → IsForm 1 xs f →
+      ¬ Rattle.za_expression.specs.Values.HasMoreValues (Rattle.za_form.specs.Expressions.letter_at xs) f
+      (length letters) Rattle.za_dfa.specs.Limits.most_states in
       let few = subst P (sym same) n.few in
       few w.many.0 w.many.1 w.many.2
 
@@ -98,17 +101,20 @@ module _ (letters : List NamedLetter) (tokens : List (List ℕ)) where
   one_tokens_fault (Some kind.ExprStates) (Some _) h k = absurd k
   one_tokens_fault (Some _) b h k = absurd h
 
-one_expression_fault : (letters : List NamedLetter) (tokens : List (List ℕ)) (a b : Option Kind) → HasExpressionFault letters tokens a → HasExpressionFault letters tokens b → a ≡ b
+one_expression_fault : (letters : List NamedLetter) (tokens : List (List ℕ)) (a b : Option Kind) → HasExpressionFault letters tokens a →
+    HasExpressionFault letters tokens b → a ≡ b
 one_expression_fault letters [] a b h k = h ∙ sym k
 one_expression_fault letters (t ∷ ts) a b h k = one_tokens_fault letters (t ∷ ts) a b h k
 
 -- ---- a line
 
-one_after_letters : (is : Bool) (s : Said) (word : List ℕ) (words : List (List ℕ)) (a b : Option Kind) → HasFaultAfterLetters is s word words a → HasFaultAfterLetters is s word words b → a ≡ b
+one_after_letters : (is : Bool) (s : Said) (word : List ℕ) (words : List (List ℕ)) (a b : Option Kind) → HasFaultAfterLetters is s word words a →
+    HasFaultAfterLetters is s word words b → a ≡ b
 one_after_letters true s word words a b h k = one_expression_fault s.letters words a b h k
 one_after_letters false s word words a b h k = sym h ∙ k
 
-one_at : (place : Place) (s : Said) (word : List ℕ) (words : List (List ℕ)) (a b : Option Kind) → HasFaultAt place s word words a → HasFaultAt place s word words b → a ≡ b
+one_at : (place : Place) (s : Said) (word : List ℕ) (words : List (List ℕ)) (a b : Option Kind) → HasFaultAt place s word words a →
+    HasFaultAt place s word words b → a ≡ b
 one_at AtHeader s word words a b h k = sym h ∙ k
 one_at AtLetters s word words a b h k = one_after_letters (is_expr word) s word words a b h k
 one_at AtProcesses s word words a b h k = sym h ∙ k
@@ -123,7 +129,8 @@ one_words : (s : Said) (words : List (List ℕ)) (a b : Option Kind) → HasWord
 one_words s [] a b h k = sym h ∙ k
 one_words s (word ∷ words) a b h k = one_at s.place s word words a b h k
 
-one_bytes : (whole allowed : Bool) (s : Said) (line : RawLine) (a b : Option Kind) → HasBytesFault whole allowed s line a → HasBytesFault whole allowed s line b → a ≡ b
+one_bytes : (whole allowed : Bool) (s : Said) (line : RawLine) (a b : Option Kind) → HasBytesFault whole allowed s line a →
+    HasBytesFault whole allowed s line b → a ≡ b
 one_bytes false allowed s line a b h k = sym h ∙ k
 one_bytes true false s line a b h k = sym h ∙ k
 one_bytes true true s line a b h k = one_words s (words_in (version_at s.place) line) a b h k
@@ -138,8 +145,10 @@ one_first before [] a b h k = h ∙ sym k
 one_first before (line ∷ lines) a b (inl h) (inl k) =
     let fault_of : Option Kind → Option TextFault = λ o. Rattle.std.specs.Option.option_map (next_fault (length before)) o in
     h.here ∙ ap fault_of (one_line (said_with before) line (Some h.kind) (Some k.kind) h.wrong k.wrong) ∙ sym k.here
-one_first before (line ∷ lines) a b (inl h) (inr k) = absurd (let e : true ≡ false = ap is_some (one_line (said_with before) line (Some h.kind) None h.wrong k.0) in cc)
-one_first before (line ∷ lines) a b (inr h) (inl k) = absurd (let e : true ≡ false = ap is_some (one_line (said_with before) line (Some k.kind) None k.wrong h.0) in cc)
+one_first before (line ∷ lines) a b (inl h) (inr k) =
+    absurd (let e : true ≡ false = ap is_some (one_line (said_with before) line (Some h.kind) None h.wrong k.0) in cc)
+one_first before (line ∷ lines) a b (inr h) (inl k) =
+    absurd (let e : true ≡ false = ap is_some (one_line (said_with before) line (Some k.kind) None k.wrong h.0) in cc)
 one_first before (line ∷ lines) a b (inr h) (inr k) = one_first (before ++ line ∷ []) lines a b h.1 k.1
 
 pub texts_have_one_fault : TextsHaveOneFault

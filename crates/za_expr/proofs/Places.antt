@@ -19,7 +19,7 @@ use Rattle.za_lang.proofs.Keeping.{kept_place}
 use Rattle.za_expr.specs.Documents.{is_expr, tokens_by, header_fault, version_at, HasFaultAt}
 use Rattle.za_expr.specs.Private.Keeping.{more_with, KeepsWith}
 
-expr_word : (word : List ℕ) → is_expr word ≡ true → word ≡ codes "expr"
+pub expr_word : (word : List ℕ) → is_expr word ≡ true → word ≡ codes "expr"
 expr_word word h = (bytes_eq-Decides word (codes "expr")).0 h
 
 -- `expr` stands nowhere in version 2
@@ -45,7 +45,8 @@ not_expr place word h =
     ]
 
 -- a line that may stand at its place in version 2 says what it says there
-pub more_next : (s : Said) (word : List ℕ) (words : List (List ℕ)) → order_fault s.place (head_of word) ≡ None → more_with s (word ∷ words) ≡ more_said s (head_of word) words
+pub more_next : (s : Said) (word : List ℕ) (words : List (List ℕ)) → order_fault s.place (head_of word) ≡ None →
+    more_with s (word ∷ words) ≡ more_said s (head_of word) words
 more_next s word words h =
     let no = not_expr s.place word h in
     ap (λ (b : Bool). let t : Said = record (more_said s (head_of word) words) { place = cond b AtScripts (next_place s.place (head_of word)) } in t) no
@@ -75,7 +76,7 @@ early_place (reading.Letters version names letters) h = letters_early letters.le
 early_place (reading.Body place job) h = absurd h
 
 -- the header's first word
-header_word : (word : List ℕ) (words : List (List ℕ)) → header_fault (word ∷ words) ≡ None → word ≡ codes "zla"
+pub header_word : (word : List ℕ) (words : List (List ℕ)) → header_fault (word ∷ words) ≡ None → word ≡ codes "zla"
 header_word word [] h = absurd (cc)
 header_word word (other ∷ x ∷ words) h = absurd (cc)
 header_word word (other ∷ []) h =
@@ -85,7 +86,8 @@ header_word word (other ∷ []) h =
     ]
 
 -- a right line isn't a comment in version 2 either
-pub no_comment : (place : Place) (s : Said) (word : List ℕ) (words : List (List ℕ)) → begins_comment (version_at place) word ≡ false → HasFaultAt place s word words None → begins_comment Two word ≡ false
+pub no_comment : (place : Place) (s : Said) (word : List ℕ) (words : List (List ℕ)) → begins_comment (version_at place) word ≡ false →
+    HasFaultAt place s word words None → begins_comment Two word ≡ false
 no_comment AtHeader s word words plain right = ap (begins_comment Two) (header_word word words right)
 no_comment AtProcesses s word words plain right = plain
 no_comment AtFirstLetter s word words plain right = plain

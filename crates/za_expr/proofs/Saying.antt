@@ -11,7 +11,7 @@ use Rattle.za_lang.specs.Documents.{Said, said, words_in}
 use Rattle.za_lang.specs.Gathering.{more}
 use Rattle.za_lang.specs.Reading.{nothing}
 use Rattle.za_lang.proofs.Saying.{said_none, said_more}
-use Rattle.za_expr.specs.Documents.{place_by, place_after, said_with, tokens_by, tokens_in}
+use Rattle.za_expr.specs.Documents.{next_place_with, place_with, said_with, tokens_by, tokens_in}
 use Rattle.za_expr.specs.Private.Keeping.{more_with}
 
 at_place : Said → Place → Said
@@ -30,10 +30,10 @@ pub said_more_with : (ls : List RawLine) (line : RawLine) → said_with (ls ++ l
 unfolding at_place
 said_more_with ls line =
     let ws = words_in Two line in
-    let place : place_after (ls ++ line ∷ []) ≡ place_by (place_after ls) ws = fold-append _ _ ls (line ∷ []) in
-    ap (λ (s : Said). at_place s (place_after (ls ++ line ∷ []))) (said_more Two ls line)
+    let place : place_with (ls ++ line ∷ []) ≡ next_place_with (place_with ls) ws = fold-append _ _ ls (line ∷ []) in
+    ap (λ (s : Said). at_place s (place_with (ls ++ line ∷ []))) (said_more Two ls line)
     ∙ ap (at_place (more (said Two ls) ws)) place
-    ∙ same_more (said Two ls) (place_after ls) (place_by (place_after ls) ws) ws
+    ∙ same_more (said Two ls) (place_with ls) (next_place_with (place_with ls) ws) ws
 
 pub tokens_more : (ls : List RawLine) (line : RawLine) → tokens_in (ls ++ line ∷ []) ≡ tokens_in ls ++ tokens_by (words_in Two line)
 tokens_more ls line = flat_map-append _ ls (line ∷ []) ∙ simp append-nil

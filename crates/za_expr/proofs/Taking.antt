@@ -43,7 +43,8 @@ IsTakenAs result old new head words =
 -- ---- up to the letters
 
 -- a line without a table leads to no late place
-still_early : (place : Place) (h : Head) → is_late place ≡ false → is_header_place place ≡ false → begins_table place h ≡ false → order_fault place h ≡ None → is_late (next_place place h) ≡ false
+still_early : (place : Place) (h : Head) → is_late place ≡ false → is_header_place place ≡ false → begins_table place h ≡ false → order_fault place h ≡ None →
+    is_late (next_place place h) ≡ false
 still_early AtProcesses head.Processes late header table order = refl
 still_early AtProcesses _ late header table order = absurd (cc)
 still_early AtFirstLetter head.Letter late header table order = refl
@@ -57,16 +58,19 @@ still_early AtRows _ late header table order = absurd (cc)
 still_early AtScripts _ late header table order = absurd (cc)
 still_early AfterEnd _ late header table order = absurd (cc)
 
-kept_early : (new : Reading) (s : Said) (tokens : List (List ℕ)) → IsReading new → Keeps new s → is_late s.place ≡ false → s.naming.version ≡ Two → tokens ≡ [] → KeepsWith new s tokens
+kept_early : (new : Reading) (s : Said) (tokens : List (List ℕ)) → IsReading new → Keeps new s → is_late s.place ≡ false → s.naming.version ≡ Two →
+    tokens ≡ [] → KeepsWith new s tokens
 kept_early reading.Header s tokens whole keeps early version none = record { keeps = keeps; version = version; none = none }
 kept_early (reading.Processes v) s tokens whole keeps early version none = record { keeps = keeps; version = version; none = none }
 kept_early (reading.Letters v names letters) s tokens whole keeps early version none = record { keeps = keeps; version = version; none = none }
 kept_early (reading.Body place job) s tokens whole keeps early version none = absurd (let e : true ≡ false = sym whole.0 ∙ ap is_late keeps.0 ∙ early in cc)
 
 -- what a right line leaves
-early_next : (new : Reading) (s : Said) (tokens : List (List ℕ)) (word : List ℕ) (words : List (List ℕ)) → IsReading new → tokens ≡ [] → s.naming.version ≡ Two →
+early_next : (new : Reading) (s : Said) (tokens : List (List ℕ)) (word : List ℕ) (words : List (List ℕ)) → IsReading new → tokens ≡ [] →
+    s.naming.version ≡ Two →
     is_late s.place ≡ false → is_header_place s.place ≡ false → begins_table s.place (head_of word) ≡ false →
-    words_fault s (word ∷ words) ≡ None → Keeps new (more_said s (head_of word) words) → KeepsWith new (more_with s (word ∷ words)) (tokens ++ tokens_by (word ∷ words))
+    words_fault s (word ∷ words) ≡ None → Keeps new (more_said s (head_of word) words) →
+    KeepsWith new (more_with s (word ∷ words)) (tokens ++ tokens_by (word ∷ words))
 early_next new s tokens word words whole none version late header table right keeps =
     let order = (none_of_or (order_fault s.place (head_of word)) (own_fault s (head_of word) words) right).0 in
     let next = kept_early new (more_said s (head_of word) words) [] whole keeps (still_early s.place (head_of word) late header table order) version refl in
@@ -74,8 +78,10 @@ early_next new s tokens word words whole none version late header table right ke
     subst (λ (t : Said). KeepsWith new t (tokens ++ tokens_by (word ∷ words))) (sym (more_next s word words order))
     (subst (λ ts. KeepsWith new (more_said s (head_of word) words) ts) (sym empty) next)
 
-plainly_early : (result : Result (Unit {0}) Refusal) (old new : Reading) (s : Said) (tokens : List (List ℕ)) (word : List ℕ) (words : List (List ℕ)) → OnOk result (IsReading new) →
-    IsEarly old s tokens → is_late (reading_place old) ≡ false → is_header_place (reading_place old) ≡ false → begins_table (reading_place old) (head_of word) ≡ false →
+plainly_early : (result : Result (Unit {0}) Refusal) (old new : Reading) (s : Said) (tokens : List (List ℕ)) (word : List ℕ) (words : List (List ℕ)) →
+    OnOk result (IsReading new) →
+    IsEarly old s tokens → is_late (reading_place old) ≡ false → is_header_place (reading_place old) ≡ false →
+    begins_table (reading_place old) (head_of word) ≡ false →
     ((t : Said) → Keeps old t → MatchResult result
     (λ _. (words_fault t (word ∷ words) ≡ None) × Keeps new (more_said t (head_of word) words) × ((later version : Version) → Awaits new later version))
     (IsWrong (words_fault t (word ∷ words)))) →
@@ -94,7 +100,8 @@ plainly_early (Err e) old new s tokens word words whole h late header table take
 -- ---- after the `expr` line
 
 -- a line of scripts has the tests of what the lines say
-same_fault : (place : Place) (t s : Said) (h : Head) (words : List (List ℕ)) → is_after place ≡ true → t.naming ≡ s.naming → t.letters ≡ s.letters → t.steps ≡ s.steps →
+same_fault : (place : Place) (t s : Said) (h : Head) (words : List (List ℕ)) → is_after place ≡ true → t.naming ≡ s.naming → t.letters ≡ s.letters →
+    t.steps ≡ s.steps →
     option_or (order_fault place h) (own_fault t h words) ≡ option_or (order_fault place h) (own_fault s h words)
 same_fault AtScripts t s head.Script words after naming letters steps =
     ap (λ (n : Naming). script_line_fault n t.letters (length t.steps) words) naming
@@ -119,8 +126,10 @@ record IsScriptHead (h : Head) : Type 0 where
   lang : (s : Said) (words : List (List ℕ)) → lang_said (more_said s h words) ≡ lang_said s
 
 script_head : (place : Place) (h : Head) → is_after place ≡ true → order_fault place h ≡ None → IsScriptHead h
-script_head AtScripts head.Script after order = record { after = λ p. refl; naming = λ s words. refl; letters = λ s words. append-nil s.letters; lang = λ s words. simp append-nil }
-script_head AtScripts head.End after order = record { after = λ p. refl; naming = λ s words. refl; letters = λ s words. append-nil s.letters; lang = λ s words. simp append-nil }
+script_head AtScripts head.Script after order =
+    record { after = λ p. refl; naming = λ s words. refl; letters = λ s words. append-nil s.letters; lang = λ s words. simp append-nil }
+script_head AtScripts head.End after order =
+    record { after = λ p. refl; naming = λ s words. refl; letters = λ s words. append-nil s.letters; lang = λ s words. simp append-nil }
 script_head AtScripts _ after order = absurd (cc)
 script_head AfterEnd _ after order = absurd (cc)
 script_head AtHeader _ after order = absurd (cc)
@@ -132,7 +141,8 @@ script_head AtAccept _ after order = absurd (cc)
 script_head AtRows _ after order = absurd (cc)
 
 -- what a right line leaves
-going_next : (place : Place) (old : JobData) (at : Place) (job : JobData) (s : Said) (tokens : List (List ℕ)) (h : Head) (words : List (List ℕ)) (g : IsGoing place old s tokens) →
+going_next : (place : Place) (old : JobData) (at : Place) (job : JobData) (s : Said) (tokens : List (List ℕ)) (h : Head) (words : List (List ℕ))
+    (g : IsGoing place old s tokens) →
     order_fault place h ≡ None → at ≡ (more_said g.told h words).place → Tells job (more_said g.told h words) →
     IsGoing at job (more_said s h words) tokens
 going_next place old at job s tokens h words g order here tells =
@@ -176,18 +186,24 @@ after_late AtRows h = absurd (cc)
 late_body : (r : Reading) (t : Said) → Keeps r t → is_late t.place ≡ true → is_late (reading_place r) ≡ false → ⊥
 late_body r t keeps late early = let e : true ≡ false = sym late ∙ ap is_late (sym (kept_place r t keeps)) ∙ early in cc
 
-kept_late : (new : Reading) (place : Place) (old : JobData) (s : Said) (tokens : List (List ℕ)) (h : Head) (words : List (List ℕ)) (g : IsGoing place old s tokens) →
+kept_late : (new : Reading) (place : Place) (old : JobData) (s : Said) (tokens : List (List ℕ)) (h : Head) (words : List (List ℕ))
+    (g : IsGoing place old s tokens) →
     order_fault place h ≡ None → Keeps new (more_said g.told h words) → KeepsWith new (more_said s h words) tokens
 kept_late (reading.Body at job) place old s tokens h words g order keeps = going_next place old at (data_of job) s tokens h words g order keeps.0 keeps.1
 kept_late reading.Header place old s tokens h words g order keeps =
-    absurd (late_body reading.Header (more_said g.told h words) keeps (after_late (next_place g.told.place h) ((script_head place h g.after order).after g.told.place)) (early_place reading.Header tt))
+    absurd (late_body reading.Header (more_said g.told h words) keeps
+    (after_late (next_place g.told.place h) ((script_head place h g.after order).after g.told.place)) (early_place reading.Header tt))
 kept_late (reading.Processes v) place old s tokens h words g order keeps =
-    absurd (late_body (reading.Processes v) (more_said g.told h words) keeps (after_late (next_place g.told.place h) ((script_head place h g.after order).after g.told.place)) (early_place (reading.Processes v) tt))
+    absurd (late_body (reading.Processes v) (more_said g.told h words) keeps
+    (after_late (next_place g.told.place h) ((script_head place h g.after order).after g.told.place)) (early_place (reading.Processes v) tt))
 kept_late (reading.Letters v names letters) place old s tokens h words g order keeps =
-    absurd (late_body (reading.Letters v names letters) (more_said g.told h words) keeps (after_late (next_place g.told.place h) ((script_head place h g.after order).after g.told.place)) (early_place (reading.Letters v names letters) tt))
+    absurd (late_body (reading.Letters v names letters) (more_said g.told h words) keeps
+    (after_late (next_place g.told.place h) ((script_head place h g.after order).after g.told.place)) (early_place (reading.Letters v names letters) tt))
 
-going_words : (new : Reading) (place : Place) (old : JobData) (s : Said) (tokens : List (List ℕ)) (word : List ℕ) (words : List (List ℕ)) (g : IsGoing place old s tokens) →
-    words_fault s (word ∷ words) ≡ None → Keeps new (more_said g.told (head_of word) words) → KeepsWith new (more_with s (word ∷ words)) (tokens ++ tokens_by (word ∷ words))
+going_words : (new : Reading) (place : Place) (old : JobData) (s : Said) (tokens : List (List ℕ)) (word : List ℕ) (words : List (List ℕ))
+    (g : IsGoing place old s tokens) →
+    words_fault s (word ∷ words) ≡ None → Keeps new (more_said g.told (head_of word) words) →
+    KeepsWith new (more_with s (word ∷ words)) (tokens ++ tokens_by (word ∷ words))
 going_words new place old s tokens word words g right keeps =
     let order = (none_of_or (order_fault s.place (head_of word)) (own_fault s (head_of word) words) right).0 in
     let there : order_fault place (head_of word) ≡ None = ap (λ p. order_fault p (head_of word)) g.at ∙ order in
@@ -204,9 +220,11 @@ told_fault place old s tokens word words g =
     ∙ same_fault place g.told s h words g.after g.naming g.letters g.steps
     ∙ ap (λ p. option_or (order_fault p h) (own_fault s h words)) g.at
 
-plainly_going : (result : Result (Unit {0}) Refusal) (new : Reading) (place : Place) (old : JobData) (s : Said) (tokens : List (List ℕ)) (word : List ℕ) (words : List (List ℕ)) (g : IsGoing place old s tokens) →
+plainly_going : (result : Result (Unit {0}) Refusal) (new : Reading) (place : Place) (old : JobData) (s : Said) (tokens : List (List ℕ)) (word : List ℕ)
+    (words : List (List ℕ)) (g : IsGoing place old s tokens) →
     MatchResult result
-    (λ _. (words_fault g.told (word ∷ words) ≡ None) × Keeps new (more_said g.told (head_of word) words) × ((later version : Version) → Awaits new later version))
+    (λ _. (words_fault g.told (word ∷ words) ≡ None) × Keeps new (more_said g.told (head_of word) words)
+    × ((later version : Version) → Awaits new later version))
     (IsWrong (words_fault g.told (word ∷ words))) →
     MatchResult result
     (λ _. (words_fault s (word ∷ words) ≡ None) × KeepsWith new (more_with s (word ∷ words)) (tokens ++ tokens_by (word ∷ words)))
@@ -218,7 +236,8 @@ plainly_going (Err e) new place old s tokens word words g t = subst (λ f. IsWro
 
 -- ---- each line
 
-pub plainly : (result : Result (Unit {0}) Refusal) (old new : Reading) (s : Said) (tokens : List (List ℕ)) (word : List ℕ) (words : List (List ℕ)) → OnOk result (IsReading new) →
+pub plainly : (result : Result (Unit {0}) Refusal) (old new : Reading) (s : Said) (tokens : List (List ℕ)) (word : List ℕ) (words : List (List ℕ)) →
+    OnOk result (IsReading new) →
     is_header_place (reading_place old) ≡ false → begins_table (reading_place old) (head_of word) ≡ false →
     IsTakenAs result old new (head_of word) words → KeepsWith old s tokens →
     MatchResult result
@@ -228,6 +247,7 @@ plainly result reading.Header new s tokens word words whole header table taken h
 plainly result (reading.Processes v) new s tokens word words whole header table taken h =
     plainly_early result (reading.Processes v) new s tokens word words whole h (early_place (reading.Processes v) tt) header table (λ t keeps. taken t keeps tt)
 plainly result (reading.Letters v names letters) new s tokens word words whole header table taken h =
-    plainly_early result (reading.Letters v names letters) new s tokens word words whole h (early_place (reading.Letters v names letters) tt) header table (λ t keeps. taken t keeps tt)
+    plainly_early result (reading.Letters v names letters) new s tokens word words whole h (early_place (reading.Letters v names letters) tt) header table
+    (λ t keeps. taken t keeps tt)
 plainly result (reading.Body place job) new s tokens word words whole header table taken h =
     plainly_going result new place (data_of job) s tokens word words h (taken h.told (h.told_at, h.tells) tt)

@@ -9,7 +9,8 @@ use Rattle.za_lang.proofs.Whole.{told_whole}
 use Rattle.za_expr.specs.Built.{IsJobSaid}
 use Rattle.za_expr.specs.Private.Keeping.{IsGoing}
 
-pub going_whole : (place at : Place) (job : JobData) (s : Said) (tokens : List (List ℕ)) → IsJob job → IsGoing place job (record s { place = at }) tokens → IsJobSaid s tokens job
+pub going_whole : (place at : Place) (job : JobData) (s : Said) (tokens : List (List ℕ)) → IsJob job → IsGoing place job (record s { place = at }) tokens →
+    IsJobSaid s tokens job
 going_whole place at job s tokens whole g =
     let is = told_whole job g.told whole g.tells in
     let scripts : scripts_said g.told ≡ scripts_said s =

@@ -41,7 +41,7 @@ pub record IsBuilt (bytes text : List ℕ) : Type 0 where
   pub printed_form : text ≡ printed (job_of text)
   pub document : fault_of text ≡ None
 
--- the text is refused so, unless memory was refused
-abbrev pub IsRefused : List ℕ → JobFault → Type 0
-IsRefused bytes (job_fault.Text fault) = HasFault bytes (Some fault)
-IsRefused bytes job_fault.OutOfMemory = Unit {0}
+-- what each answer without a text says: the document has this fault; want of memory says nothing
+abbrev pub IsBuildFault : List ℕ → JobFault → Type 0
+IsBuildFault bytes (job_fault.Text fault) = HasFault bytes (Some fault)
+IsBuildFault bytes job_fault.OutOfMemory = Unit {0}

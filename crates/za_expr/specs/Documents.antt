@@ -27,17 +27,17 @@ abbrev pub is_expr : List ℕ → Bool
 is_expr word = bytes_eq word (codes "expr")
 
 -- the place after a line
-abbrev pub place_by : Place → List (List ℕ) → Place
-place_by place [] = place
-place_by place (word ∷ words) = if is_expr word then AtScripts else next_place place (head_of word)
+abbrev pub next_place_with : Place → List (List ℕ) → Place
+next_place_with place [] = place
+next_place_with place (word ∷ words) = if is_expr word then AtScripts else next_place place (head_of word)
 
 -- the place that lines lead to
-abbrev pub place_after : List RawLine → Place
-place_after lines = fold (λ place line. place_by place (words_in Two line)) AtHeader lines
+abbrev pub place_with : List RawLine → Place
+place_with lines = fold (λ place line. next_place_with place (words_in Two line)) AtHeader lines
 
 -- all that lines say, but for the expression
 abbrev pub said_with : List RawLine → Said
-said_with lines = record (said Two lines) { place = place_after lines }
+said_with lines = record (said Two lines) { place = place_with lines }
 
 -- the tokens of the expression that a line says
 abbrev pub tokens_by : List (List ℕ) → List (List ℕ)
@@ -98,7 +98,7 @@ pub record IsWrongLine (before : List RawLine) (line : RawLine) (fault : Option 
 
 -- the fault of the lines that come after others: that of the first wrong one, or the missing end, or none
 abbrev pub HasFirstFault : List RawLine → List RawLine → Option TextFault → Type 0
-HasFirstFault before [] fault = fault ≡ end_fault (place_after before) (length before)
+HasFirstFault before [] fault = fault ≡ end_fault (place_with before) (length before)
 HasFirstFault before (line ∷ lines) fault =
     IsWrongLine before line fault
     ⊎ (HasLineFault (said_with before) line None × HasFirstFault (before ++ line ∷ []) lines fault)

@@ -1,7 +1,7 @@
 ghost use Rattle.std.specs.Prelude.{◌≡◌, ◌<◌, None, length, IfOk, MatchResult};
 ghost use Rattle.za_lang.specs.Answers.{data_of};
 ghost use Rattle.za_lang.specs.Jobs.{IsJob};
-ghost use Rattle.za_expr.specs.Built.{IsBuilt, IsJobOf, IsRefused};
+ghost use Rattle.za_expr.specs.Built.{IsBuilt, IsJobOf, IsBuildFault};
 ghost use Rattle.za_expr.specs.Documents.{HasFault};
 
 use crate::reading::take;
@@ -15,7 +15,7 @@ fn read_expression(alloc: Global, bytes: &[u8]) -> Result<Job, JobFault>
     requires { length bytes.now < 4294967295 }
     ensures answer { MatchResult result
         (λ job. HasFault bytes.now None × IsJobOf bytes.now (data_of job))
-        (IsRefused bytes.now) }
+        (IsBuildFault bytes.now) }
     ensures job { IfOk result (λ job. IsJob (data_of job)) }
 {
     let mut lines = Lines::new(bytes);
@@ -44,7 +44,7 @@ fn read_expression(alloc: Global, bytes: &[u8]) -> Result<Job, JobFault>
 /// memory is the one free answer.
 pub fn build(alloc: Global, bytes: &[u8]) -> Result<Vec<u8>, JobFault>
     requires { length bytes.now < 4294967295 }
-    ensures { MatchResult result (λ text. IsBuilt bytes.now text.items) (IsRefused bytes.now) }
+    ensures { MatchResult result (λ text. IsBuilt bytes.now text.items) (IsBuildFault bytes.now) }
 {
     let job = read_expression(alloc, bytes)?;
     match print_job(alloc, &job) {

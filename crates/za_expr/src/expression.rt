@@ -10,7 +10,7 @@ ghost use Rattle.za_lang.specs.Letters.{AreNamedLetters};
 ghost use Rattle.za_lang.specs.Reading.{naming_of};
 ghost use Rattle.za_lang.specs.declared.version.Version.TheVariants.{Two};
 ghost use Rattle.za_expr.specs.Expressions.{HasExpressionFault, HasTokensFault};
-ghost use Rattle.za_expr.specs.Private.Keeping.{form_refusal, wide_refusal, IsBegunJob, IsTable, IsWrongBy};
+ghost use Rattle.za_expr.specs.Private.Keeping.{form_refusal, wide_refusal, IsBegunJob, IsExpressionTable, IsWrongBy};
 
 use std::alloc::Global;
 use za_alpha::{Alphabet, Letters};
@@ -45,7 +45,7 @@ fn wide_refusal(fault: Wide) -> Refusal
 /// The table of the expression that a text is.
 fn table_of(alloc: Global, alphabet: Alphabet, text: &[u8]) -> Result<Dfa, Refusal>
     ensures { MatchResult result
-        (IsTable alphabet (words_of text.now))
+        (IsExpressionTable alphabet (words_of text.now))
         (IsWrongBy (HasTokensFault alphabet.letters (words_of text.now))) }
 {
     let form = match Form::parse(alloc, &alphabet, text) {

@@ -9,4 +9,4 @@ mod reading;
 mod tests;
 
 pub use document::build;
-pub use laws::texts_have_one_fault;
+pub use laws::{documents_are_built_once, documents_are_built_or_refused, texts_have_one_fault};

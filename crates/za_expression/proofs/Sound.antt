@@ -9,7 +9,8 @@ use Rattle.za_expression.specs.Grammar.{Rank, Item, Product, Sum, Reads, Named, 
 use Rattle.za_expression.specs.Grammar.{Whole}
 use Rattle.za_expression.specs.Grammar.{Derives, Plainly as IsPlain, Denied, Braced, Only, Joined, IsForm}
 use Rattle.za_expression.specs.Private.Machine.{Layer, Frame, Now, Fresh, Plainly, Closed, Stack, empty_layer, then_item, or_product, and_unary, denied, bind}
-use Rattle.za_expression.specs.Private.Machine.{product_of, sum_of, with_item, with_star, with_bar, layer_step, unary_of, form_here, fresh_frame, pops, with_now}
+use Rattle.za_expression.specs.Private.Machine.{product_of, sum_of, with_item, with_star, with_bar, layer_step, unary_of, form_here, fresh_frame, pops}
+use Rattle.za_expression.specs.Private.Machine.{with_now}
 use Rattle.za_expression.specs.Private.Machine.{now_step, plain_step, step, read_from, ended, start, parsed}
 
 -- what a bind that gives something came from

@@ -8,3 +8,6 @@ pub mod Sets
 pub mod Positions
 pub mod Searches
 pub mod Values
+pub mod OneTable
+pub mod SomeTable
+pub mod SomeSigns

@@ -43,7 +43,8 @@ same-bytes (l ∷ ls) (m ∷ ms) h =
     elim (cases_Bool (same_line l m)) [
       | inl t ↦
           let e : bytes_of l ≡ bytes_of m = (bytes_eq-Decides (bytes_of l) (bytes_of m)).0 t in
-          let k : first_other ls ms ≡ None = none-of (first_other ls ms) (sym (cond-true (same_line l m) (option_map (λ n. suc n) (first_other ls ms)) (Some 0) t) ∙ h) in
+          let k : first_other ls ms ≡ None =
+          none-of (first_other ls ms) (sym (cond-true (same_line l m) (option_map (λ n. suc n) (first_other ls ms)) (Some 0) t) ∙ h) in
           ap (λ xs. xs ++ bytes_of_lines ls) e ∙ ap (λ xs. bytes_of m ++ xs) (same-bytes ls ms k)
       | inr f ↦ absurd (some-none (first_other (l ∷ ls) (m ∷ ms)) (other-here l m ls ms f) h)
     ]
@@ -164,7 +165,8 @@ module _ (text other : List ℕ) (line i : ℕ) where
   left-none l m = ap (λ xs. Lines xs (drop i other)) (drop_all i text l) ∙ ap (Lines []) (drop_all i other m)
 
   pub left-apart : i < length text → i < length other → x ≢ y → left_over line i text other ≡ Some line
-  left-apart l m ne = both l m ∙ at-zero line (first_other (lines_of (x ∷ rest text)) (lines_of (y ∷ rest other))) (differs-here x y (rest text) (rest other) ne)
+  left-apart l m ne = both l m ∙ at-zero line (first_other (lines_of (x ∷ rest text)) (lines_of (y ∷ rest other)))
+      (differs-here x y (rest text) (rest other) ne)
 
   pub left-feed : i < length text → i < length other → x ≡ y → x ≡ 10 → left_over line i text other ≡ left_over (line + 1) (i + 1) text other
   left-feed l m e t =

@@ -1,5 +1,6 @@
 -- A frozen text says its job and its number, and none of its lines is wrong.
-use Rattle.std.proofs.Common.{◌≡◌, ◌∙◌, ap, sym, ℕ, ◌<◌, ◌≤◌, ◌^◌, Bool, true, false, inl, inr, List, [], ◌∷◌, ◌++◌, Some, None, refl, length, map, take, arith, append-nil}
+use Rattle.std.proofs.Common.{◌≡◌, ◌∙◌, ap, sym, ℕ, ◌<◌, ◌≤◌, ◌^◌, Bool, true, false, inl, inr, List, [], ◌∷◌, ◌++◌, Some, None, refl, length, map, take, arith}
+use Rattle.std.proofs.Common.{append-nil}
 use Rattle.std.specs.Prelude.{slice_get, codes, nat_lt}
 use Rattle.std.specs.List.{range_with_len, AllByRecursion}
 use Rattle.std.specs.Option.{option_or, option_map}
@@ -22,7 +23,8 @@ use Rattle.za_print.proofs.PrintedLines.{IsLine, printed_line, words_of_line, li
 use Rattle.za_print.proofs.Decimals.{numeral_value-decimal, word-decimal}
 use Rattle.za_print.proofs.ReadBack as jobs
 use Rattle.za_freeze.specs.Frozen.{woven_of, cut_word, at_line, text_after, frozen_text}
-use Rattle.za_freeze.specs.Thawing.{is_cut_line, bytes_before, frozen_job, cut_place, cut_line, cut_line_fault, cut_fault, reading_fault, cut_said, cut_of, fault_against}
+use Rattle.za_freeze.specs.Thawing.{is_cut_line, bytes_before, frozen_job, cut_place, cut_line, cut_line_fault, cut_fault, reading_fault, cut_said, cut_of}
+use Rattle.za_freeze.specs.Thawing.{fault_against}
 use Rattle.za_freeze.specs.Laws.{FrozenTextsAreReadBack}
 use Rattle.za_freeze.proofs.FirstOther.{none-other}
 use Rattle.za_freeze.proofs.TextLines.{lines-of-both, before-behind, line-behind}

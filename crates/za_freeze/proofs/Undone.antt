@@ -42,7 +42,8 @@ frozen_texts_are_thawed job d k (thaw_fault.NotClosed left right) whole au h =
     let back = frozen_texts_are_read_back job d k whole au.minimal.alphabet in
     let given = completion job.lang in
     let broken = subst (λ (j : JobData). AreBreakWords (completion j.lang) left right) back.0 h.1 in
-    absurd ((closed_is_unbroken (loc_of job.lang.alphabet) job.lang.alphabet.processes (automaton_of given) whole.lang.distributed.located).0 au.closed broken.0 broken.1.is)
+    absurd ((closed_is_unbroken (loc_of job.lang.alphabet) job.lang.alphabet.processes (automaton_of given) whole.lang.distributed.located).0 au.closed broken.0
+    broken.1.is)
 frozen_texts_are_thawed job d k thaw_fault.OutOfMemory whole au h = refl
 
 -- the word at which a text was frozen

@@ -65,7 +65,8 @@ pub same-table : (a b : DistributedAlphabet) (xs ys : List Bool) (ts us : List �
 same-table a b xs ys ts us p q r = ap (λ (x : DistributedAlphabet). table_with x 0 xs ts) p ∙ ap (λ (x : List Bool). table_with b 0 x ts) q
     ∙ ap (λ (x : List ℕ). table_with b 0 ys x) r
 
-pub same-job : (l m : LangData) (s t : List (List ℕ)) → l ≡ m → s ≡ t → ◌≡◌ {A = JobData} (record { naming = l.naming; lang = l.table; scripts = s }) (record { naming = m.naming; lang = m.table; scripts = t })
+pub same-job : (l m : LangData) (s t : List (List ℕ)) → l ≡ m → s ≡ t →
+    ◌≡◌ {A = JobData} (record { naming = l.naming; lang = l.table; scripts = s }) (record { naming = m.naming; lang = m.table; scripts = t })
 same-job l m s t p q =
     ap (λ (x : LangData). let job : JobData = record { naming = x.naming; lang = x.table; scripts = s } in job) p
     ∙ ap (λ xs. let job : JobData = record { naming = m.naming; lang = m.table; scripts = xs } in job) q

@@ -1,5 +1,6 @@
 -- The rows and the label after an event, from the rows of its participants.
-use Rattle.std.proofs.Common.{◌≡◌, ℕ, ◌+◌, ◌*◌, ◌^◌, ◌<◌, ◌≤◌, true, false, not, inl, inr, List, [], length, get_or, map, Option, Some, None, sym, ap, ◌∙◌, arith}
+use Rattle.std.proofs.Common.{◌≡◌, ℕ, ◌+◌, ◌*◌, ◌^◌, ◌<◌, ◌≤◌, true, false, not, inl, inr, List, [], length, get_or, map, Option, Some, None, sym, ap, ◌∙◌}
+use Rattle.std.proofs.Common.{arith}
 use Rattle.std.specs.List.{range_with_len}
 use Rattle.std.proofs.lemmas.Bool.{cases_Bool, not_from_true, not_from_false}
 use Rattle.std.proofs.lemmas.List.{get_or-map}
@@ -20,7 +21,8 @@ use Rattle.za_order.proofs.Rising.{rising-members, has-place}
 use Rattle.za_gossip.proofs.LevelRows.{width, own_block, IsRight, length-row, row-joined}
 use Rattle.za_gossip.proofs.Inputs.{inputs-length, inputs-some, input-at}
 
-module _ (alphabet : DistributedAlphabet) (a : ℕ) (whole : IsDistributed alphabet) (small : a < length alphabet.letters) (inputs : List Rows) (w : List ℕ) (given : AreRowsAfter alphabet w (loc_of alphabet a) inputs) where
+module _ (alphabet : DistributedAlphabet) (a : ℕ) (whole : IsDistributed alphabet) (small : a < length alphabet.letters) (inputs : List Rows) (w : List ℕ)
+    (given : AreRowsAfter alphabet w (loc_of alphabet a) inputs) where
   abbrev loc : ℕ → List ℕ
   loc = loc_of alphabet
 
@@ -35,12 +37,14 @@ module _ (alphabet : DistributedAlphabet) (a : ℕ) (whole : IsDistributed alpha
 
   -- the length of a row of an input
   pub length-input : (level : Level) (i : ℕ) (d : Rows) → i < length inputs → length (level_of level (get_or inputs i d)) ≡ n * width level n
-  length-input level i d l = ap (λ (rows : Rows). length (level_of level rows)) (input-at alphabet a whole small inputs w given i d l) ∙ length-row level n (known (get_or xs i 0))
+  length-input level i d l = ap (λ (rows : Rows). length (level_of level rows)) (input-at alphabet a whole small inputs w given i d l)
+      ∙ length-row level n (known (get_or xs i 0))
 
   -- the first participant is the least
   least-first : least (has xs) n ≡ get_or xs 0 0
   least-first =
-      let some : 0 < length xs = (let e = inputs-length alphabet a whole small inputs w given in let s = inputs-some alphabet a whole small inputs w given in omega arith) in
+      let some : 0 < length xs = (let e = inputs-length alphabet a whole small inputs w given in let s = inputs-some alphabet a whole small inputs w given in
+      omega arith) in
       let here = has-place xs 0 some in
       least-is (has xs) n (get_or xs 0 0) (whole.located.below a (get_or xs 0 0) small here) here
       (λ j l. elim (cases_Bool (has xs j)) [
@@ -49,19 +53,22 @@ module _ (alphabet : DistributedAlphabet) (a : ℕ) (whole : IsDistributed alpha
       ])
 
   -- the least label whose number is not in its tertiary row is the new label
-  pub label-found : (k : ℕ) (d : Rows) → k ≤ n ^ 3 → has (get_or inputs 0 d).tertiary (number_of n a k) ≡ false → ((j : ℕ) → j < k → has (get_or inputs 0 d).tertiary (number_of n a j) ≡ true) →
+  pub label-found : (k : ℕ) (d : Rows) → k ≤ n ^ 3 → has (get_or inputs 0 d).tertiary (number_of n a k) ≡ false →
+      ((j : ℕ) → j < k → has (get_or inputs 0 d).tertiary (number_of n a j) ≡ true) →
       new_label n xs a known ≡ k
   label-found k d l free below =
       let row = λ (rows : Rows). rows.tertiary in
       let same : (get_or inputs 0 d).tertiary ≡ (rows_of n (known (least (has xs) n))).tertiary =
-      ap row (input-at alphabet a whole small inputs w given 0 d (inputs-some alphabet a whole small inputs w given)) ∙ ap (λ x. (rows_of n (known x)).tertiary) (sym least-first) in
+      ap row (input-at alphabet a whole small inputs w given 0 d (inputs-some alphabet a whole small inputs w given))
+      ∙ ap (λ x. (rows_of n (known x)).tertiary) (sym least-first) in
       let first = (rows_of n (known (least (has xs) n))).tertiary in
       least-is (λ k. not (has first (number_of n a k))) (n ^ 3 + 1) k (omega arith)
       (not_from_false (has first (number_of n a k)) (sym (ap (λ r. has r (number_of n a k)) same) ∙ free))
       (λ j lj. not_from_true (has first (number_of n a j)) (sym (ap (λ r. has r (number_of n a j)) same) ∙ below j lj))
 
   -- a source is right
-  source-right : (level : Level) (q : ℕ) (o : Option ℕ) → ((b : ℕ) → o ≡ Some b → b < length inputs) → IsSource alphabet w a q o → IsRight n xs a known level (map (level_of level) inputs) q o
+  source-right : (level : Level) (q : ℕ) (o : Option ℕ) → ((b : ℕ) → o ≡ Some b → b < length inputs) → IsSource alphabet w a q o →
+      IsRight n xs a known level (map (level_of level) inputs) q o
   source-right level q None within s = s
   source-right level q (Some b) within s =
       let none : Rows = record { primary = []; secondary = []; tertiary = [] } in

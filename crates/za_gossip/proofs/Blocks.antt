@@ -29,7 +29,8 @@ module _ (f : ℕ → List ℕ) (m : ℕ) (wide : (x : ℕ) → length (f x) ≡
   -- the length of all of them
   length-blocks-from : (a n : ℕ) → length (flat_map f (range_with_len a n)) ≡ n * m
   length-blocks-from a zero = omega arith
-  length-blocks-from a (suc n) = let s = suc-mul n m in let h = wide a in let ih = length-blocks-from (a + 1) n in omega (arith, length-append (f a) (flat_map f (range_with_len (a + 1) n)))
+  length-blocks-from a (suc n) = let s = suc-mul n m in let h = wide a in let ih = length-blocks-from (a + 1) n in
+      omega (arith, length-append (f a) (flat_map f (range_with_len (a + 1) n)))
 
   pub length-blocks : (n : ℕ) → length (flat_map f (range_with_len 0 n)) ≡ n * m
   length-blocks n = length-blocks-from 0 n

@@ -1,5 +1,6 @@
 -- Tertiary entries for a process are events of it.
-use Rattle.std.proofs.Common.{◌≡◌, ℕ, ◌+◌, ◌*◌, ◌/◌, ◌%◌, ◌^◌, ◌<◌, ◌≤◌, true, List, length, get_or, map, slice_index, Option, Some, None, refl, sym, ap, subst, ◌∙◌, arith, inl, inr}
+use Rattle.std.proofs.Common.{◌≡◌, ℕ, ◌+◌, ◌*◌, ◌/◌, ◌%◌, ◌^◌, ◌<◌, ◌≤◌, true, List, length, get_or, map, slice_index, Option, Some, None, refl, sym, ap, subst}
+use Rattle.std.proofs.Common.{◌∙◌, arith, inl, inr}
 use Rattle.std.specs.List.{range_with_len}
 use Rattle.std.proofs.Math.Nat.{mod-lt}
 use Rattle.std.proofs.lemmas.Nat.{div-add-mod', div_below, row_fits}
@@ -20,7 +21,8 @@ use Rattle.za_gossip.proofs.Blocks.{entry-of-block}
 use Rattle.za_gossip.proofs.LevelRows.{row-entry, length-row}
 
 -- an entry of a tertiary row
-tertiary-entry : (n : ℕ) (known : Ids) (q r s : ℕ) → q < n → r < n → s < n → get_or (rows_of n known).tertiary (q * (n * n) + (r * n + s)) 0 ≡ known.tertiary q r s
+tertiary-entry : (n : ℕ) (known : Ids) (q r s : ℕ) → q < n → r < n → s < n →
+    get_or (rows_of n known).tertiary (q * (n * n) + (r * n + s)) 0 ≡ known.tertiary q r s
 tertiary-entry n known q r s lq lr ls =
     row-entry Tertiary n known q (r * n + s) lq (let f = row_fits r n n n lr (omega arith) in omega arith)
     ∙ entry-of-block (λ x. map (known.tertiary q x) (range_with_len 0 n)) n (λ x. length-map-range_with_len (known.tertiary q x) 0 n) n r s lr ls
@@ -31,7 +33,8 @@ regroup q r s n = grind (arith)
 
 module _ (loc : ℕ → List ℕ) (n : ℕ) (some : 0 < n) (w : List ℕ) (p : ℕ) where
   -- its event is one of the process
-  own : (q r s a k : ℕ) → k ≤ n ^ 3 → (o : Option ℕ) → tertiary (participants loc w) (length w) p q r s ≡ o → number loc n w o ≡ number_of n a k → has (loc a) s ≡ true
+  own : (q r s a k : ℕ) → k ≤ n ^ 3 → (o : Option ℕ) → tertiary (participants loc w) (length w) p q r s ≡ o → number loc n w o ≡ number_of n a k →
+      has (loc a) s ≡ true
   own q r s a k l None e h = absurd (omega arith)
   own q r s a k l (Some i) e h =
       let at = tertiary-sound (participants loc w) (length w) p q r s i e in

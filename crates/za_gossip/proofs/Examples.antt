@@ -15,7 +15,8 @@ after_c : rows_after loc_two 2 (2 ∷ []) 0 ≡ (record { primary = replicate 2 
 after_c = refl
 
 -- a.0 and c.0 after a b c a
-after_a_b_c_a : rows_after loc_two 2 (0 ∷ 1 ∷ 2 ∷ 0 ∷ []) 0 ≡ (record { primary = 1 ∷ 19 ∷ []; secondary = 1 ∷ 19 ∷ 19 ∷ 19 ∷ []; tertiary = 1 ∷ replicate 7 19 })
+after_a_b_c_a : rows_after loc_two 2 (0 ∷ 1 ∷ 2 ∷ 0 ∷ []) 0
+    ≡ (record { primary = 1 ∷ 19 ∷ []; secondary = 1 ∷ 19 ∷ 19 ∷ 19 ∷ []; tertiary = 1 ∷ replicate 7 19 })
 after_a_b_c_a = refl
 
 -- a is news to process 1, and b to process 0

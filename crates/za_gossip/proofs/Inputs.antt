@@ -1,5 +1,6 @@
 -- What the rows of the participants hold.
-use Rattle.std.proofs.Common.{◌≡◌, ℕ, ◌+◌, ◌*◌, ◌<◌, ◌≤◌, Bool, true, false, ◌||◌, ◌==◌, inl, inr, List, [], ◌∷◌, length, get_or, slice_index, take, map, Option, Some, refl, sym, ap, subst, ◌∙◌, arith}
+use Rattle.std.proofs.Common.{◌≡◌, ℕ, ◌+◌, ◌*◌, ◌<◌, ◌≤◌, Bool, true, false, ◌||◌, ◌==◌, inl, inr, List, [], ◌∷◌, length, get_or, slice_index, take, map}
+use Rattle.std.proofs.Common.{Option, Some, refl, sym, ap, subst, ◌∙◌, arith}
 use Rattle.std.specs.List.{range_with_len, list_any, slice_get}
 use Rattle.std.specs.Option.{option_map_or}
 use Rattle.std.proofs.Math.Seq.{take-length}
@@ -31,7 +32,8 @@ pub record IsBestSoFar (alphabet : DistributedAlphabet) (a : ℕ) (inputs : List
   pub below : i < y
   pub best : (w : List ℕ) → AreRowsAfter alphabet w (loc_of alphabet a) inputs → IsBestOf alphabet a w r y i
 
-module _ (alphabet : DistributedAlphabet) (a : ℕ) (whole : IsDistributed alphabet) (small : a < length alphabet.letters) (inputs : List Rows) (w : List ℕ) (given : AreRowsAfter alphabet w (loc_of alphabet a) inputs) where
+module _ (alphabet : DistributedAlphabet) (a : ℕ) (whole : IsDistributed alphabet) (small : a < length alphabet.letters) (inputs : List Rows) (w : List ℕ)
+    (given : AreRowsAfter alphabet w (loc_of alphabet a) inputs) where
   abbrev loc : ℕ → List ℕ
   loc = loc_of alphabet
 
@@ -72,7 +74,8 @@ module _ (alphabet : DistributedAlphabet) (a : ℕ) (whole : IsDistributed alpha
   primary-at i r d l lr =
       ap (λ (rows : Rows). slice_index rows.primary r) (input-at i d l) ∙ get_or-map-range_with_len (known (get_or xs i 0)).primary 0 n r r 0 lr (omega arith)
 
-  pub secondary-at : (i q r : ℕ) (d : Rows) → i < length inputs → q < n → r < n → slice_index (get_or inputs i d).secondary (q * n + r) ≡ (known (get_or xs i 0)).secondary q r
+  pub secondary-at : (i q r : ℕ) (d : Rows) → i < length inputs → q < n → r < n →
+      slice_index (get_or inputs i d).secondary (q * n + r) ≡ (known (get_or xs i 0)).secondary q r
   secondary-at i q r d l lq lr =
       let own = (known (get_or xs i 0)).secondary in
       ap (λ (rows : Rows). slice_index rows.secondary (q * n + r)) (input-at i d l)
@@ -97,7 +100,8 @@ module _ (alphabet : DistributedAlphabet) (a : ℕ) (whole : IsDistributed alpha
   more-at : (y : ℕ) → y < length xs → IsMore (take y xs) (get_or xs y 0) (take (y + 1) xs)
   more-at y l =
       let x : ℕ = get_or xs y 0 in
-      let next : (z : ℕ) → has (take (y + 1) xs) z ≡ (has (take y xs) z || has (x ∷ []) z) = λ z. ap (λ zs. has zs z) (take_more xs y 0 l) ∙ has-append (take y xs) (x ∷ []) z in
+      let next : (z : ℕ) → has (take (y + 1) xs) z ≡ (has (take y xs) z || has (x ∷ []) z) = λ z. ap (λ zs. has zs z) (take_more xs y 0 l)
+      ∙ has-append (take y xs) (x ∷ []) z in
       record {
         here = next x ∙ or_right (has (take y xs) x) (has (x ∷ []) x) (has-here x x [] refl);
         there = λ z h. next z ∙ or_left (has (take y xs) z) (has (x ∷ []) z) h;
@@ -113,7 +117,8 @@ module _ (alphabet : DistributedAlphabet) (a : ℕ) (whole : IsDistributed alpha
       subst (λ zs. IsLeastNewest who (length w) zs r (get_or xs 0 0)) (sym one) (least-single who (length w) (get_or xs 0 0) r)
 
   pub best-stays : (r y i : ℕ) → y < length inputs → IsBestOf alphabet a w r y i →
-      option_map_or (λ f. in_view who (length w) (get_or xs i 0 ∷ []) f) (primary who (length w) (get_or xs y 0) r) true ≡ true → IsBestOf alphabet a w r (y + 1) i
+      option_map_or (λ f. in_view who (length w) (get_or xs i 0 ∷ []) f) (primary who (length w) (get_or xs y 0) r) true ≡ true →
+      IsBestOf alphabet a w r (y + 1) i
   best-stays r y i l k h =
       let e = inputs-length in
       least-stays who (length w) (take y xs) (get_or xs y 0) (take (y + 1) xs) r (get_or xs i 0) (more-at y (omega arith))
@@ -121,13 +126,15 @@ module _ (alphabet : DistributedAlphabet) (a : ℕ) (whole : IsDistributed alpha
       (λ f p. subst (λ o. option_map_or (λ f. in_view who (length w) (get_or xs i 0 ∷ []) f) o true ≡ true) p h)
 
   pub best-moves : (r y i : ℕ) → y < length inputs → IsBestOf alphabet a w r y i →
-      option_map_or (λ f. in_view who (length w) (get_or xs i 0 ∷ []) f) (primary who (length w) (get_or xs y 0) r) true ≡ false → IsBestOf alphabet a w r (y + 1) y
+      option_map_or (λ f. in_view who (length w) (get_or xs i 0 ∷ []) f) (primary who (length w) (get_or xs y 0) r) true ≡ false →
+      IsBestOf alphabet a w r (y + 1) y
   best-moves r y i l k h =
       let e = inputs-length in
       let test = λ (o : Option ℕ). option_map_or (λ f. in_view who (length w) (get_or xs i 0 ∷ []) f) o true in
       elim (option-cases (primary who (length w) (get_or xs y 0) r)) [
         | inl none ↦ absurd (let c : true ≡ false = sym (ap test none) ∙ h in cc)
-        | inr one ↦ least-moves who (length w) (take y xs) (get_or xs y 0) (take (y + 1) xs) r (get_or xs i 0) one.0 (more-at y (omega arith)) k one.1 (sym (ap test one.1) ∙ h)
+        | inr one ↦ least-moves who (length w) (take y xs) (get_or xs y 0) (take (y + 1) xs) r (get_or xs i 0) one.0 (more-at y (omega arith)) k one.1
+            (sym (ap test one.1) ∙ h)
       ]
 
   pub best-last : (r y i : ℕ) → i < length inputs → y ≡ length inputs → IsBestOf alphabet a w r y i → slice_get xs i ≡ Some (best who n (length w) xs r)

@@ -1,5 +1,6 @@
 -- Each row is made of blocks, one for each process, and so is each row after an event.
-use Rattle.std.proofs.Common.{◌≡◌, ℕ, zero, suc, ◌+◌, ◌*◌, ◌/◌, ◌%◌, ◌<◌, true, false, List, [], ◌∷◌, length, get_or, map, flat_map, Option, Some, None, refl, sym, ap, ◌∙◌, arith}
+use Rattle.std.proofs.Common.{◌≡◌, ℕ, zero, suc, ◌+◌, ◌*◌, ◌/◌, ◌%◌, ◌<◌, true, false, List, [], ◌∷◌, length, get_or, map, flat_map, Option, Some, None, refl}
+use Rattle.std.proofs.Common.{sym, ap, ◌∙◌, arith}
 use Rattle.std.specs.List.{range_with_len}
 use Rattle.std.specs.Option.{option_map_or}
 use Rattle.std.proofs.Math.Path.{fun_ext}
@@ -33,7 +34,8 @@ width Tertiary n = n * n
 pub length-block : (level : Level) (n : ℕ) (known : Ids) (q : ℕ) → length (block level n known q) ≡ width level n
 length-block Primary n known q = refl
 length-block Secondary n known q = length-map-range_with_len (known.secondary q) 0 n
-length-block Tertiary n known q = length-blocks (λ r. map (known.tertiary q r) (range_with_len 0 n)) n (λ r. length-map-range_with_len (known.tertiary q r) 0 n) n
+length-block Tertiary n known q =
+    length-blocks (λ r. map (known.tertiary q r) (range_with_len 0 n)) n (λ r. length-map-range_with_len (known.tertiary q r) 0 n) n
 
 -- a row is its blocks
 row-blocks : (level : Level) (n : ℕ) (known : Ids) → level_of level (rows_of n known) ≡ flat_map (block level n known) (range_with_len 0 n)
@@ -48,7 +50,8 @@ length-row level n known = ap length (row-blocks level n known) ∙ length-block
 pub row-entry : (level : Level) (n : ℕ) (known : Ids) (q j : ℕ) → q < n → j < width level n →
     get_or (level_of level (rows_of n known)) (q * width level n + j) 0 ≡ get_or (block level n known q) j 0
 row-entry level n known q j lq lj =
-    ap (λ xs. get_or xs (q * width level n + j) 0) (row-blocks level n known) ∙ entry-of-block (block level n known) (width level n) (length-block level n known) n q j lq lj
+    ap (λ xs. get_or xs (q * width level n + j) 0) (row-blocks level n known)
+    ∙ entry-of-block (block level n known) (width level n) (length-block level n known) n q j lq lj
 
 -- what an event makes of the blocks
 module _ (n : ℕ) (xs : List ℕ) (a : ℕ) (known : ℕ → Ids) where
@@ -96,7 +99,8 @@ module _ (n : ℕ) (xs : List ℕ) (a : ℕ) (known : ℕ → Ids) where
   IsRight level rows q None = has xs q ≡ true
   IsRight level rows q (Some b) = (has xs q ≡ false) × (get_or rows b [] ≡ level_of level (rows_of n (known (newest n xs known q))))
 
-  entry-right : (level : Level) (rows : List (List ℕ)) (own : List ℕ) (i q j : ℕ) (o : Option ℕ) → own ≡ own_block level → q < n → j < width level n → q * width level n + j ≡ i → IsRight level rows q o →
+  entry-right : (level : Level) (rows : List (List ℕ)) (own : List ℕ) (i q j : ℕ) (o : Option ℕ) → own ≡ own_block level → q < n → j < width level n →
+      q * width level n + j ≡ i → IsRight level rows q o →
       get_or (block level n next q) j 0 ≡ option_map_or (λ b. get_or (get_or rows b []) i 0) o (get_or own j 0)
   entry-right level rows own i q j None e lq lj at right = ap (λ xs. get_or xs j 0) (block-own level q right ∙ sym e)
   entry-right level rows own i q j (Some b) e lq lj at right =
@@ -106,11 +110,13 @@ module _ (n : ℕ) (xs : List ℕ) (a : ℕ) (known : ℕ → Ids) where
       ∙ ap (λ xs. get_or xs i 0) (sym right.1)
 
   -- so the entries that right sources give make the row after the event
-  pub row-joined : (level : Level) (rows : List (List ℕ)) (own : List ℕ) (sources : List (Option ℕ)) (size : ℕ) → size ≡ n * width level n → own ≡ own_block level →
+  pub row-joined : (level : Level) (rows : List (List ℕ)) (own : List ℕ) (sources : List (Option ℕ)) (size : ℕ) → size ≡ n * width level n →
+      own ≡ own_block level →
       ((q : ℕ) → q < n → IsRight level rows q (get_or sources q None)) →
       map (joined_entry own sources rows) (range_with_len 0 size) ≡ level_of level (rows_of n next)
   row-joined level rows own sources size e s right =
-      sym (fill_by_all (joined_entry own sources rows) (level_of level (rows_of n next)) size 0 (length-row level n next ∙ sym e) (λ i l. entry i (omega arith)))
+      sym (fill_by_all (joined_entry own sources rows) (level_of level (rows_of n next)) size 0 (length-row level n next ∙ sym e)
+      (λ i l. entry i (omega arith)))
     where
       positive : (m k i : ℕ) → i < k * m → 0 < m
       positive zero k i l = let z = mul-zero k in absurd (omega arith)

@@ -1,5 +1,6 @@
 -- What numbers tell of entries: whose they are, and who knows which.
-use Rattle.std.proofs.Common.{◌≡◌, ℕ, ◌+◌, ◌^◌, ◌<◌, ◌≤◌, Bool, true, false, not, ◌&&◌, ◌||◌, ◌==◌, inl, inr, List, [], ◌∷◌, length, slice_index, map, flat_map, Some, sym, ap, subst, ◌∙◌, arith, eqb-true, eq-eqb, ne_eqb}
+use Rattle.std.proofs.Common.{◌≡◌, ℕ, ◌+◌, ◌^◌, ◌<◌, ◌≤◌, Bool, true, false, not, ◌&&◌, ◌||◌, ◌==◌, inl, inr, List, [], ◌∷◌, length, slice_index, map, flat_map}
+use Rattle.std.proofs.Common.{Some, sym, ap, subst, ◌∙◌, arith, eqb-true, eq-eqb, ne_eqb}
 use Rattle.std.specs.List.{range_with_len, list_any, list_all}
 use Rattle.std.specs.Option.{option_map_or}
 use Rattle.std.proofs.Math.Path.{fun_ext}
@@ -22,7 +23,8 @@ use Rattle.za_gossip.specs.Rows.{rows_of}
 use Rattle.za_gossip.specs.Updates.{knows_number, newest, new_label}
 use Rattle.za_gossip.specs.Laws.{NewestIsBest}
 
-module _ (loc : ℕ → List ℕ) (letters processes : ℕ) (w : List ℕ) (alphabet : IsAlphabet loc letters processes) (word : IsWord letters w) (n : ℕ) (l : n ≤ length w) where
+module _ (loc : ℕ → List ℕ) (letters processes : ℕ) (w : List ℕ) (alphabet : IsAlphabet loc letters processes) (word : IsWord letters w) (n : ℕ)
+    (l : n ≤ length w) where
   abbrev who : ℕ → List ℕ
   who = participants loc w
 
@@ -50,7 +52,8 @@ module _ (loc : ℕ → List ℕ) (letters processes : ℕ) (w : List ℕ) (alph
       (eq-eqb ((known x).secondary s.0 r) ((known y).primary r) (ap (number loc processes w) (s.1 ∙ sym h))))
 
   -- so the test by numbers is the test by views
-  pub seen : (r x y : ℕ) → knows_number processes (known x).secondary r ((known y).primary r) ≡ option_map_or (λ e. in_view who n (x ∷ []) e) (primary who n y r) true
+  pub seen : (r x y : ℕ) → knows_number processes (known x).secondary r ((known y).primary r)
+      ≡ option_map_or (λ e. in_view who n (x ∷ []) e) (primary who n y r) true
   seen r x y =
       let any : Bool = list_any (λ q. (known x).secondary q r == (known y).primary r) (range_with_len 0 processes) in
       elim (option-cases (primary who n y r)) [
@@ -97,7 +100,8 @@ module _ (loc : ℕ → List ℕ) (letters processes : ℕ) (w : List ℕ) (over
       (q.0, r.0, s.0, eqb-true (own.tertiary q.0 r.0 s.0) v s.2)
 
   -- and that of each that is one
-  tertiary-to : (p q r s e : ℕ) → tertiary (participants loc w) n p q r s ≡ Some e → has (rows_of processes (ids loc processes w n p)).tertiary (number loc processes w (Some e)) ≡ true
+  tertiary-to : (p q r s e : ℕ) → tertiary (participants loc w) n p q r s ≡ Some e →
+      has (rows_of processes (ids loc processes w n p)).tertiary (number loc processes w (Some e)) ≡ true
   tertiary-to p q r s e h =
       let range = range_with_len 0 processes in
       let own = ids loc processes w n p in
@@ -129,7 +133,8 @@ label-new loc letters processes w over n l =
           elim (option-cases (tertiary who n x k.0 k.1 k.2)) [
             | inl none ↦ absurd (let z = sym (ap (number loc processes w) none) ∙ k.3 in omega arith)
             | inr one ↦
-                let p = number_of-parts processes (slice_index w one.0) a (label loc processes w one.0) b (small w one.0) le (sym (ap (number loc processes w) one.1) ∙ k.3) in
+                let p = number_of-parts processes (slice_index w one.0) a (label loc processes w one.0) b (small w one.0) le
+                (sym (ap (number loc processes w) one.1) ∙ k.3) in
                 absurd (label-free loc letters processes w over n one.0 l (k.0, k.1, k.2, one.1) p.0 p.1)
           ]
     ] in

@@ -41,15 +41,20 @@ module _ (processes : ℕ) (xs : List ℕ) (known : ℕ → Ids) (rename : ℕ �
   module _ (letter : ℕ) (keeps : KeepsLetter processes letter rename) where
     -- the tertiary numbers have the same of the letter's
     same-taken : (own : Ids) (k : ℕ) →
-        has (rows_of processes (renamed rename own)).tertiary (number_of processes letter k) ≡ has (rows_of processes own).tertiary (number_of processes letter k)
+        has (rows_of processes (renamed rename own)).tertiary (number_of processes letter k)
+        ≡ has (rows_of processes own).tertiary (number_of processes letter k)
     same-taken own k =
         let range = range_with_len 0 processes in
         let v : ℕ = number_of processes letter k in
-        let each : (t : ℕ → ℕ → ℕ → ℕ) → has (flat_map (λ q. flat_map (λ r. map (t q r) range) range) range) v ≡ list_any (λ q. list_any (λ r. list_any (λ s. t q r s == v) range) range) range = λ t.
+        let each : (t : ℕ → ℕ → ℕ → ℕ) →
+        has (flat_map (λ q. flat_map (λ r. map (t q r) range) range) range) v
+        ≡ list_any (λ q. list_any (λ r. list_any (λ s. t q r s == v) range) range) range = λ t.
         has-flat_map (λ q. flat_map (λ r. map (t q r) range) range) range v
-        ∙ ap (λ f. list_any f range) (fun_ext (λ q. has-flat_map (λ r. map (t q r) range) range v ∙ ap (λ f. list_any f range) (fun_ext (λ r. has-map (t q r) range v)))) in
+        ∙ ap (λ f. list_any f range) (fun_ext
+        (λ q. has-flat_map (λ r. map (t q r) range) range v ∙ ap (λ f. list_any f range) (fun_ext (λ r. has-map (t q r) range v)))) in
         each (λ q r s. rename (own.tertiary q r s))
-        ∙ ap (λ f. list_any f range) (fun_ext (λ q. ap (λ f. list_any f range) (fun_ext (λ r. ap (λ f. list_any f range) (fun_ext (λ s. same-as (own.tertiary q r s) v (keeps k)))))))
+        ∙ ap (λ f. list_any f range) (fun_ext
+        (λ q. ap (λ f. list_any f range) (fun_ext (λ r. ap (λ f. list_any f range) (fun_ext (λ s. same-as (own.tertiary q r s) v (keeps k)))))))
         ∙ sym (each own.tertiary)
 
     pub label-renamed : new_label processes xs letter other ≡ new_label processes xs letter known

@@ -1,5 +1,6 @@
 -- The numbers of the participants after an event, and of the other processes.
-use Rattle.std.proofs.Common.{◌≡◌, ℕ, suc, ◌<◌, true, false, inl, inr, List, [], ◌∷◌, ◌++◌, length, slice_index, Option, Some, None, refl, sym, ap, subst, ◌∙◌, arith}
+use Rattle.std.proofs.Common.{◌≡◌, ℕ, suc, ◌<◌, true, false, inl, inr, List, [], ◌∷◌, ◌++◌, length, slice_index, Option, Some, None, refl, sym, ap, subst, ◌∙◌}
+use Rattle.std.proofs.Common.{arith}
 use Rattle.std.proofs.Math.Path.{fun_ext}
 use Rattle.std.proofs.lemmas.Bool.{cases_Bool, cond-true, cond-false}
 use Rattle.za_alpha.specs.Words.{has, IsAlphabet, IsWord}
@@ -21,7 +22,8 @@ use Rattle.za_order.proofs.NextEntries.{primary-newest, secondary-newest, tertia
 use Rattle.za_gossip.proofs.Numbers.{newest-best, label-new}
 
 -- at the event n of a word
-module _ (loc : ℕ → List ℕ) (letters processes : ℕ) (w : List ℕ) (alphabet : IsAlphabet loc letters processes) (word : IsWord letters w) (n : ℕ) (l : n < length w) where
+module _ (loc : ℕ → List ℕ) (letters processes : ℕ) (w : List ℕ) (alphabet : IsAlphabet loc letters processes) (word : IsWord letters w) (n : ℕ)
+    (l : n < length w) where
   abbrev who : ℕ → List ℕ
   who = participants loc w
 
@@ -57,8 +59,10 @@ module _ (loc : ℕ → List ℕ) (letters processes : ℕ) (w : List ℕ) (alph
       let e : ℕ = new_primary processes (who n) a known r in
       let b : ℕ = newest processes (who n) known q in
       elim (cases_Bool (has (who n) q)) [
-        | inl t ↦ ap (number loc processes w) (secondary-own who n p q r h t) ∙ primary-next p r h ∙ sym (cond-true (has (who n) q) e ((known b).secondary q r) t)
-        | inr f ↦ ap (number loc processes w) (secondary-newest who n p q r b h f (newest-at q p h)) ∙ sym (cond-false (has (who n) q) e ((known b).secondary q r) f)
+        | inl t ↦ ap (number loc processes w) (secondary-own who n p q r h t) ∙ primary-next p r h
+            ∙ sym (cond-true (has (who n) q) e ((known b).secondary q r) t)
+        | inr f ↦ ap (number loc processes w) (secondary-newest who n p q r b h f (newest-at q p h))
+            ∙ sym (cond-false (has (who n) q) e ((known b).secondary q r) f)
       ]
 
   tertiary-next : (p q r s : ℕ) → has (who n) p ≡ true → (ids loc processes w (suc n) p).tertiary q r s ≡ new_tertiary processes (who n) a known q r s
@@ -66,8 +70,10 @@ module _ (loc : ℕ → List ℕ) (letters processes : ℕ) (w : List ℕ) (alph
       let e : ℕ = new_secondary processes (who n) a known r s in
       let b : ℕ = newest processes (who n) known q in
       elim (cases_Bool (has (who n) q)) [
-        | inl t ↦ ap (number loc processes w) (tertiary-own who n p q r s h t) ∙ secondary-next p r s h ∙ sym (cond-true (has (who n) q) e ((known b).tertiary q r s) t)
-        | inr f ↦ ap (number loc processes w) (tertiary-newest who n p q r s b h f (newest-at q p h)) ∙ sym (cond-false (has (who n) q) e ((known b).tertiary q r s) f)
+        | inl t ↦ ap (number loc processes w) (tertiary-own who n p q r s h t) ∙ secondary-next p r s h
+            ∙ sym (cond-true (has (who n) q) e ((known b).tertiary q r s) t)
+        | inr f ↦ ap (number loc processes w) (tertiary-newest who n p q r s b h f (newest-at q p h))
+            ∙ sym (cond-false (has (who n) q) e ((known b).tertiary q r s) f)
       ]
 
   -- the updated numbers are those after the event
@@ -85,7 +91,8 @@ module _ (loc : ℕ → List ℕ) (letters processes : ℕ) (w : List ℕ) (alph
       (λ q r s. ap (number loc processes w) (tertiary-kept who n p q r s h))
 
 -- after a word, by an event of the letter a
-module _ (loc : ℕ → List ℕ) (letters processes : ℕ) (w : List ℕ) (a : ℕ) (alphabet : IsAlphabet loc letters processes) (word : IsWord letters w) (small : a < letters) where
+module _ (loc : ℕ → List ℕ) (letters processes : ℕ) (w : List ℕ) (a : ℕ) (alphabet : IsAlphabet loc letters processes) (word : IsWord letters w)
+    (small : a < letters) where
   -- the longer word
   abbrev wa : List ℕ
   wa = w ++ a ∷ []
@@ -113,9 +120,12 @@ module _ (loc : ℕ → List ℕ) (letters processes : ℕ) (w : List ℕ) (a : 
       let who' = participants loc w in
       let agree : (j : ℕ) → j < n → who j ≡ who' j = λ j k. ap loc (agrees w a j k) in
       same-ids (ids loc processes wa n p) (ids loc processes w n p)
-      (λ q. number-before (primary who n p q) (λ e h. primary-below who n p q e (primary-sound who n p q e h)) ∙ ap (number loc processes w) (primary-same who who' n p q agree))
-      (λ q r. number-before (secondary who n p q r) (λ e h. secondary-below who n p q r e (secondary-sound who n p q r e h)) ∙ ap (number loc processes w) (secondary-same who who' n p q r agree))
-      (λ q r s. number-before (tertiary who n p q r s) (λ e h. tertiary-below who n p q r s e (tertiary-sound who n p q r s e h)) ∙ ap (number loc processes w) (tertiary-same who who' n p q r s agree))
+      (λ q. number-before (primary who n p q) (λ e h. primary-below who n p q e (primary-sound who n p q e h))
+      ∙ ap (number loc processes w) (primary-same who who' n p q agree))
+      (λ q r. number-before (secondary who n p q r) (λ e h. secondary-below who n p q r e (secondary-sound who n p q r e h))
+      ∙ ap (number loc processes w) (secondary-same who who' n p q r agree))
+      (λ q r s. number-before (tertiary who n p q r s) (λ e h. tertiary-below who n p q r s e (tertiary-sound who n p q r s e h))
+      ∙ ap (number loc processes w) (tertiary-same who who' n p q r s agree))
 
   known-before : ids loc processes wa (length w) ≡ ids loc processes w (length w)
   known-before = fun_ext ids-before
@@ -123,7 +133,8 @@ module _ (loc : ℕ → List ℕ) (letters processes : ℕ) (w : List ℕ) (a : 
   pub label-after : new_label processes (loc a) a (ids loc processes w (length w)) ≡ label loc processes wa (length w)
   label-after =
       sym (ap (λ v. new_label processes (loc v) v (ids loc processes wa (length w))) (seam w a) ∙ ap (new_label processes (loc a) a) known-before)
-      ∙ label-new loc letters processes wa (word-over loc letters processes wa alphabet (word-next letters w a word small)) (length w) (omega (arith, length-next w a))
+      ∙ label-new loc letters processes wa (word-over loc letters processes wa alphabet (word-next letters w a word small)) (length w)
+      (omega (arith, length-next w a))
 
   pub ids-after : (p : ℕ) → has (loc a) p ≡ true → ids loc processes wa (suc (length w)) p ≡ updated processes (loc a) a (ids loc processes w (length w))
   ids-after p h =
@@ -132,10 +143,12 @@ module _ (loc : ℕ → List ℕ) (letters processes : ℕ) (w : List ℕ) (a : 
       ∙ ap (updated processes (loc a) a) known-before
 
   pub ids-kept : (p : ℕ) → has (loc a) p ≡ false → ids loc processes wa (suc (length w)) p ≡ ids loc processes w (length w) p
-  ids-kept p h = kept-at loc letters processes wa alphabet (word-next letters w a word small) (length w) (omega (arith, length-next w a)) p (at-seam loc w a p ∙ h) ∙ ids-before p
+  ids-kept p h = kept-at loc letters processes wa alphabet (word-next letters w a word small) (length w) (omega (arith, length-next w a)) p
+      (at-seam loc w a p ∙ h) ∙ ids-before p
 
   -- and so are the rows
-  pub rows-after : (p : ℕ) → has (loc a) p ≡ true → rows_of processes (updated processes (loc a) a (ids loc processes w (length w))) ≡ rows_after loc processes wa p
+  pub rows-after : (p : ℕ) → has (loc a) p ≡ true → rows_of processes (updated processes (loc a) a (ids loc processes w (length w)))
+      ≡ rows_after loc processes wa p
   rows-after p h = ap (rows_of processes) (sym (ids-after p h)) ∙ ap (λ m. rows_of processes (ids loc processes wa m p)) (sym (length-next w a))
 
   pub rows-kept : (p : ℕ) → has (loc a) p ≡ false → rows_after loc processes w p ≡ rows_after loc processes wa p

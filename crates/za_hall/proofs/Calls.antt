@@ -5,7 +5,7 @@ use Rattle.za_hall.specs.declared.turn.Turn.TheVariants.{Fired, Ended, Over}
 use Rattle.za_hall.specs.Views.{View}
 use Rattle.za_hall.specs.Halls.{DeskState, fired}
 use Rattle.za_hall.specs.Private.Serving.{Waited}
-use Rattle.za_hall.specs.Answers.{IsLast, IsAnswered, note_of, Says, Try, Call, GaveEnded, GaveFired}
+use Rattle.za_hall.specs.Answers.{IsLast, EndsStep, note_of, Says, Try, Call, GaveEnded, GaveFired}
 
 same_turn : (s t : Turn) → Some s ≡ Some t → s ≡ t
 same_turn s t e = cc
@@ -54,11 +54,11 @@ module _ (old loop new : DeskState) (turn : Turn) (number : loop.number ≡ old.
     λ g. step_back at w g loop.view.over refl,
   )
 
-  open_loop : (had : Bool) → (IsAnswered had turn → ⊥) → (b : Bool) → loop.view.over ≡ b → loop.view.over ≡ false
-  open_loop had not true e = absurd (not (subst (IsAnswered had) (sym (seen e).0) tt))
+  open_loop : (had : Bool) → (EndsStep had turn → ⊥) → (b : Bool) → loop.view.over ≡ b → loop.view.over ≡ false
+  open_loop had not true e = absurd (not (subst (EndsStep had) (sym (seen e).0) tt))
   open_loop had not false e = e
 
   -- a step that goes on has told of nothing
-  pub step_on : Waited old loop → (had : Bool) → (IsAnswered had turn → ⊥) → Waited old new
+  pub step_on : Waited old loop → (had : Bool) → (EndsStep had turn → ⊥) → Waited old new
   step_on w had not = let f = open_loop had not loop.view.over refl in
-      inr (open_before w f, λ at g. not (subst (IsAnswered had) (sym ((fires at).1 (f, subst (λ (T : Type 0). T) (sym (moved at)) g))) tt))
+      inr (open_before w f, λ at g. not (subst (EndsStep had) (sym ((fires at).1 (f, subst (λ (T : Type 0). T) (sym (moved at)) g))) tt))

@@ -14,7 +14,7 @@ use Rattle.za_hall.specs.Places.{places}
 use Rattle.za_hall.specs.Views.{View, Note}
 use Rattle.za_hall.specs.Halls.{DeskState}
 use Rattle.za_hall.specs.Rule.{arrivals_of, Slot, IsCovered, FiredOk, NoteOk, EachNote, Kept}
-use Rattle.za_hall.specs.Private.Serving.{number_of}
+use Rattle.za_hall.specs.Private.Serving.{note_number}
 use Rattle.za_hall.specs.Answers.{note_of, first_note}
 use Rattle.za_hall.specs.Halls.{fired, IsToldBy, HasDesks}
 use Rattle.za_hall.proofs.Letters.{false_true}
@@ -47,7 +47,7 @@ closes job ws xs id v (s, (r, here), words, deep, homes) free all =
         let one : some h.0 ≡ some v = sym h.1 ∙ (ap (get_elem? s.views) same ∙ here) in
         false_true (sym free ∙ (ap (λ (w : View). w.holds) (sym (some-injective h.0 v one)) ∙ h.2))
 
-pub first_in : (ns : List Note) (p : ℕ) → map number_of ns ≡ p ∷ [] → Contains ns (first_note ns)
+pub first_in : (ns : List Note) (p : ℕ) → map note_number ns ≡ p ∷ [] → Contains ns (first_note ns)
 first_in ns p e = let o = one_note ns p e in let P : List Note → Type 0 = λ l. Contains l (first_note l) in subst P (sym o.1) (0, omega arith, refl)
 
 pub some_note : (ns : List Note) (n : Note) → Contains ns n → (m : Note) × ((ms : List Note) × (ns ≡ m ∷ ms))

@@ -8,7 +8,7 @@ use Rattle.za_machine.specs.Machine.{Machine, State, is_in, fired_by, next, is_c
 use Rattle.za_machine.specs.Private.Standing.{IsSound}
 use Rattle.za_machine.proofs.States.{reached-sound, reached_more, not_both, fired_by-other, fired_by-own}
 use Rattle.za_table.specs.Tables.{TableState}
-use Rattle.za_hall.specs.Own.{machine, arrives, ends, takes_up, settles, Own, OwnNone, OwnArrival, OwnTakeUp, OwnFiring, OwnEnding}
+use Rattle.za_hall.specs.Own.{machine, arrives, ends_script, takes_up, settles, Own, OwnNone, OwnArrival, OwnTakeUp, OwnFiring, OwnEnding}
 use Rattle.za_machine.specs.Hands.{hand}
 use Rattle.za_shared.specs.Records.{Records}
 use Rattle.za_hall.specs.Places.{places}
@@ -147,7 +147,7 @@ module _ (t : TableState) (fit : IsFit (machine t)) (cov : IsCovered t) where
         held = ok.held;
       }
 
-  ending_kept : (p : ℕ) (n : Note) → n.number ≢ p → NoteOk t n → NoteOk (ends p t) n
+  ending_kept : (p : ℕ) (n : Note) → n.number ≢ p → NoteOk t n → NoteOk (ends_script p t) n
   ending_kept p n other ok = let e : is_in (set t.state.ended p true) n.number ≡ is_in t.state.ended n.number =
       get_or-set_other t.state.ended p n.number true false other in record {
         inside = ok.inside;
@@ -230,7 +230,7 @@ own_covered p t _ fit cov (OwnArrival a ready nxt short) = arrival_covered t fit
 own_covered p t _ fit cov (OwnTakeUp a ready nxt full) = let o = fit.own p (fired_by (machine t) t.state.journal p) a nxt in
     take_up_covered t fit cov p a ready.1 o.0 o.1 nxt full
 own_covered p t _ fit cov (OwnFiring a rs mine) = firing_covered t fit cov p a rs mine
-own_covered p t _ fit cov (OwnEnding spent) = covers (ends p t) (hands_size cov) cov.taken (only cov)
+own_covered p t _ fit cov (OwnEnding spent) = covers (ends_script p t) (hands_size cov) cov.taken (only cov)
 
 -- THE LAW: the events of one process keep what is noted of each other
 pub own_keeps : (p : ℕ) (t d : TableState) → IsFit (machine t) → IsCovered t → IsMachineState (machine t) t.state → Own p t d → (n : Note) → n.number ≢ p

@@ -7,15 +7,15 @@ use Rattle.za_machine.specs.Machine.{IsOver}
 use Rattle.za_table.specs.Tables.{Given, TableState}
 use Rattle.za_hall.specs.Own.{machine, Own}
 use Rattle.za_hall.specs.Rule.{Slot, Hand, Kept}
-use Rattle.za_hall.specs.Steps.{tried, carries, Taken, Took, Gave}
+use Rattle.za_hall.specs.Steps.{tried, carries, Taken, TookHand, Gave}
 use Rattle.za_hall.specs.Views.{Note}
 use Rattle.za_hall.proofs.Takes.{try_allowed}
 use Rattle.za_hall.proofs.Gives.{give_allowed}
 
 pub try_as : (job : Given) (slots id : ℕ) (m : Hand) (n : Note) → m.0.notes ≡ n ∷ [] → m.0.holds ≡ false → m.1 ≡ []
-    → Allows (Kept job) slots id m 0 (λ x. either (eqb x 0) 1 x) (Took m)
+    → Allows (Kept job) slots id m 0 (λ x. either (eqb x 0) 1 x) (TookHand m)
 try_as job slots id m n one free bare = let P : List (ℕ × Slot) → Type 0 = λ l. Allows (Kept job) slots id (m.0, l) 0 (λ x. either (eqb x 0) 1 x)
-    (Took (m.0, l)) in
+    (TookHand (m.0, l)) in
     subst P (sym bare) (try_allowed job slots id m.0 n [] one free)
 
 pub give_as : (job : Given) (slots id : ℕ) (m : Hand) (n : Note) (d : TableState) (over : Bool) (x : ℕ) → m.0.holds ≡ true → m.0.notes ≡ n ∷ []
@@ -33,10 +33,10 @@ give_as job slots id m n d over x holds one own word is_over full =
         i.1 o in cc)
 
 -- what a try that found 0 gained
-pub took_out : (m m' : Hand) (x : ℕ) → Took m x m' → x ≡ 0 → (c : TableState) × (m' ≡ (tried 0 c m.0, (0, Some c) ∷ [])) × Taken c m.0
+pub took_out : (m m' : Hand) (x : ℕ) → TookHand m x m' → x ≡ 0 → (c : TableState) × (m' ≡ (tried 0 c m.0, (0, Some c) ∷ [])) × Taken c m.0
 took_out m m' x t e = (t.1.0, t.1.1 ∙ ap (λ (n : ℕ). (tried n t.1.0 m.0, carries n t.1.0)) e, t.1.2 e)
 
-pub took_none : (m m' : Hand) (x : ℕ) → Took m x m' → x ≢ 0 → ((x ≡ 1) ⊎ (x ≡ 2)) × ((c : TableState) × (m' ≡ (tried x c m.0, [])))
+pub took_none : (m m' : Hand) (x : ℕ) → TookHand m x m' → x ≢ 0 → ((x ≡ 1) ⊎ (x ≡ 2)) × ((c : TableState) × (m' ≡ (tried x c m.0, [])))
 took_none m m' zero t e = absurd (e refl)
 took_none m m' (suc zero) t e = (inl refl, (t.1.0, t.1.1))
 took_none m m' (suc (suc zero)) t e = (inr refl, (t.1.0, t.1.1))

@@ -12,7 +12,7 @@ use Rattle.za_hall.specs.Own.{machine}
 use Rattle.za_machine.specs.Hands.{hand}
 use Rattle.za_hall.specs.Views.{View}
 use Rattle.za_hall.specs.Rule.{NoteOk, EachNote, Apart, Knows, Kept, IsCovered}
-use Rattle.za_hall.specs.Steps.{first_view, blank, blank_notes}
+use Rattle.za_hall.specs.Steps.{first_view, blank_note, blank_notes}
 use Rattle.za_hall.specs.Places.{places}
 use Rattle.za_table.proofs.Keeping as keeping
 use Rattle.za_hall.proofs.Fits.{table_fits}
@@ -36,7 +36,7 @@ module _ (t : TableState) (new : t.state ≡ initial (machine t)) where
     no_hand : (a p : ℕ) → hand t.hands a ≡ Some p → ⊥
     no_hand a p e = let o = ok.in_hand.each a p e in none_complete a o.letter o.complete
 
-    blank_ok : (k : ℕ) → k < (machine t).processes → NoteOk t (blank k)
+    blank_ok : (k : ℕ) → k < (machine t).processes → NoteOk t (blank_note k)
     blank_ok k l = record {
       inside = l;
       arrivals = let P : List ℕ → Bool → Type 0 = λ w b. 0 ≡ fired_by (machine t) w k + cond b 1 0 in

@@ -8,7 +8,7 @@ use Rattle.atomic_table.specs.Table.{State, Splits, Joins}
 use Rattle.atomic_table.proofs.Lists.{set_else, at_longer}
 use Rattle.za_table.specs.Tables.{Given}
 use Rattle.za_hall.specs.Rule.{Slot, NoteOk, EachNote, Apart, Knows, Kept}
-use Rattle.za_hall.specs.Steps.{left_of, right_of, both_of, spent_view, others, head}
+use Rattle.za_hall.specs.Steps.{left_of, right_of, both_of, spent_view, other_notes, head}
 use Rattle.za_hall.specs.Views.{View, Note}
 use Rattle.za_hall.proofs.Takes.{each_after}
 use Rattle.za_hall.proofs.Gives.{note_zip}
@@ -129,11 +129,11 @@ splits job id v n ns some_note free s r here = record {
     mine = record {
       job_is = inr of_job;
       holds = λ e. absurd (false_true (sym free ∙ e));
-      notes = let P : List Note → Type 0 = λ l. EachNote (NoteOk r.table) (others l) in subst P (sym some_note) all.1;
-      owned = let P : List Note → Type 0 = λ l. EachNote (λ k. owner k.number ≡ id) (others l) in
+      notes = let P : List Note → Type 0 = λ l. EachNote (NoteOk r.table) (other_notes l) in subst P (sym some_note) all.1;
+      owned = let P : List Note → Type 0 = λ l. EachNote (λ k. owner k.number ≡ id) (other_notes l) in
           subst P (sym some_note) (note_zip (λ k. r.owner k.number ≡ id) (λ k. n.number ≢ k.number) (λ k. owner k.number ≡ id)
           (λ k o other. put_else r.owner n.number (length s.views) k.number (λ e. other (sym e)) ∙ o) ns owned.1 apart.0);
-      apart = let P : List Note → Type 0 = λ l. Apart (others l) in subst P (sym some_note) apart.1;
+      apart = let P : List Note → Type 0 = λ l. Apart (other_notes l) in subst P (sym some_note) apart.1;
       over = known.over;
     }
 

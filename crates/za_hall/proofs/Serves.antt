@@ -12,7 +12,7 @@ use Rattle.za_machine.specs.Machine.{is_in, fired_by, next, is_complete, arrive,
 use Rattle.za_machine.specs.Private.Standing.{IsSound}
 use Rattle.za_machine.proofs.States.{reached-sound, reached_left, at-without, not_both}
 use Rattle.za_table.specs.Tables.{TableState}
-use Rattle.za_hall.specs.Own.{machine, arrives, ends, takes_up, settles, OwnTakeUp}
+use Rattle.za_hall.specs.Own.{machine, arrives, ends_script, takes_up, settles, OwnTakeUp}
 use Rattle.za_machine.specs.Hands.{hand}
 use Rattle.za_hall.specs.Places.{places}
 use Rattle.za_table.specs.Answers.{AreMissing}
@@ -43,7 +43,7 @@ module _ (p : ℕ) (t : TableState) (fit : IsFit (machine t)) (r : IsMachineStat
   pub may_arrive : (a : ℕ) → is_in t.state.arrived p ≡ false → next (machine t) t.state.journal p ≡ Some a → IsAllowed (machine t) t.state (Arrive p)
   may_arrive a away e = (inside, away, get_within ((machine t).scripts p) (fired_by (machine t) t.state.journal p) a e)
 
-  pub has_ended : is_in (ends p t).state.ended p ≡ true
+  pub has_ended : is_in (ends_script p t).state.ended p ≡ true
   has_ended = get_or-set_same t.state.ended p true false (let e = sound.ended_size in omega arith)
 
   pub has_arrived : is_in (arrives p t).state.arrived p ≡ true

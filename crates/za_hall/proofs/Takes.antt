@@ -9,7 +9,7 @@ use Rattle.atomic_table.specs.Table.{State, Act, keeps, takes, stepped, carried_
 use Rattle.atomic_table.proofs.Lists.{at_set, set_here, set_else}
 use Rattle.za_table.specs.Tables.{Given, machine_of}
 use Rattle.za_hall.specs.Rule.{Slot, NoteOk, EachNote, Apart, Knows, Kept, IsFit}
-use Rattle.za_hall.specs.Steps.{tried, Took}
+use Rattle.za_hall.specs.Steps.{tried, TookHand}
 use Rattle.za_hall.specs.Views.{View, Note}
 
 false_true : false ≡ true → ⊥
@@ -120,11 +120,12 @@ goes_out job s r id v w n ns some_note here is_free took notes of_job holds over
 
 -- the turn is tried
 pub try_allowed : (job : Given) (slots id : ℕ) (v : View) (n : Note) (ns : List Note) → v.notes ≡ n ∷ ns → v.holds ≡ false
-    → Allows (Kept job) slots id (v, []) 0 (λ x. either (eqb x 0) 1 x) (Took (v, []))
+    → Allows (Kept job) slots id (v, []) 0 (λ x. either (eqb x 0) 1 x) (TookHand (v, []))
 try_allowed job slots id v n ns some_note free s r deep here bound = subst G (sym r.word_is) (go r.word refl)
   where
     G : ℕ → Type 0
-    G x = (w : View) × (a : Act Slot) × Valid s.homes [] a × Kept job (stepped s 0 (either (eqb x 0) 1 x) id [] w a) × Took (v, []) x (w, carried_after [] a)
+    G x = (w : View) × (a : Act Slot) × Valid s.homes [] a × Kept job (stepped s 0 (either (eqb x 0) 1 x) id [] w a)
+        × TookHand (v, []) x (w, carried_after [] a)
 
     known : Knows job r.table r.word r.turn r.owner id v
     known = r.each id v here

@@ -8,14 +8,14 @@ use Rattle.za_machine.proofs.States.{not_both, reached-sound, at-without, fired_
 use Rattle.za_hall.specs.declared.turn.Turn.TheVariants.{Fired, Ended, Over, Busy}
 use Rattle.za_script.proofs.Lists.{same_front}
 use Rattle.za_table.specs.Tables.{TableState, machine_of}
-use Rattle.za_hall.specs.Own.{machine, arrives, ends, takes_up, settles, Own, OwnNone, OwnArrival, OwnTakeUp, OwnFiring, OwnEnding}
+use Rattle.za_hall.specs.Own.{machine, arrives, ends_script, takes_up, settles, Own, OwnNone, OwnArrival, OwnTakeUp, OwnFiring, OwnEnding}
 use Rattle.za_machine.specs.Hands.{hand}
 use Rattle.za_hall.specs.Places.{places}
 use Rattle.za_hall.specs.Views.{View, Note}
 use Rattle.za_hall.specs.declared.serving.Served.{Served}
 use Rattle.za_hall.specs.Rule.{NoteOk, EachNote, FiredOk}
 use Rattle.za_hall.specs.Steps.{tried, given_back, noted, Taken, hand_of}
-use Rattle.za_hall.specs.Private.Serving.{number_of, first_fired, first_hand, first_arrivals, first_ended, letter_number, Tells, letter_after, answered}
+use Rattle.za_hall.specs.Private.Serving.{note_number, first_fired, first_hand, first_arrivals, first_ended, letter_number, TellsServed, letter_after, answered}
 use Rattle.za_hall.specs.Answers.{IsLast, with_fired, Says, Try, Stays, ArrivesOnce, EndsOnce, IsPending}
 use Rattle.za_hall.proofs.Letters.{false_true, length_places, places_own, places_other, parts}
 use Rattle.za_machine.specs.Private.Standing.{IsSound}
@@ -23,7 +23,7 @@ use Rattle.za_shared.specs.Records.{Records}
 use Rattle.za_hall.proofs.Events.{own_covered, own_reached, only}
 use Rattle.za_hall.specs.declared.serving.Served.TheVariants as served
 
-pub one_note : (ns : List Note) (p : ℕ) → map number_of ns ≡ p ∷ [] → (n : Note) × (ns ≡ n ∷ []) × (n.number ≡ p)
+pub one_note : (ns : List Note) (p : ℕ) → map note_number ns ≡ p ∷ [] → (n : Note) × (ns ≡ n ∷ []) × (n.number ≡ p)
 one_note [] p e = absurd (cc)
 one_note (n ∷ []) p e = (n, refl, cc)
 one_note (n ∷ m ∷ ns) p e = absurd (cc)
@@ -57,7 +57,7 @@ whole_fired t p fired (inl e) here = e
 whole_fired t p fired (inr k) (inl here) = absurd (false_true (sym k.0 ∙ here))
 whole_fired t p fired (inr k) (inr gone) = absurd (false_true (sym k.1 ∙ gone))
 
-module _ (v : View) (p told : ℕ) (letter : Option ℕ) (numbers : map number_of v.notes ≡ p ∷ []) (told_all : length (first_fired v.notes) ≡ told)
+module _ (v : View) (p told : ℕ) (letter : Option ℕ) (numbers : map note_number v.notes ≡ p ∷ []) (told_all : length (first_fired v.notes) ≡ told)
     (hand_is : first_hand v.notes ≡ letter) (t : TableState) (k : Taken t v) where
   pub its_note : (n : Note) × (v.notes ≡ n ∷ []) × (n.number ≡ p) × NoteOk t n
   its_note = let o = one_note v.notes p numbers in (o.0, o.1, o.2, (subst (EachNote (NoteOk t)) o.1 k.notes).0)
@@ -103,8 +103,8 @@ module _ (v : View) (p told : ℕ) (letter : Option ℕ) (numbers : map number_o
       last.1 ∙ ap (λ xs. xs ++ at ∷ []) (same_front last.0 (at ∷ []) (first_fired v.notes) f.0 (sym last.1 ∙ f.1) (last.2 ∙ sym told_all))
 
   -- the notes after the hold
-  pub numbers_after : (d : TableState) → map number_of (map (noted d) v.notes) ≡ p ∷ []
-  numbers_after d = let o = one_note v.notes p numbers in ap (λ ns. map number_of (map (noted d) ns)) o.1 ∙ ap (λ (q : ℕ). q ∷ []) o.2
+  pub numbers_after : (d : TableState) → map note_number (map (noted d) v.notes) ≡ p ∷ []
+  numbers_after d = let o = one_note v.notes p numbers in ap (λ ns. map note_number (map (noted d) ns)) o.1 ∙ ap (λ (q : ℕ). q ∷ []) o.2
 
   pub fired_after : (d : TableState) → first_fired (map (noted d) v.notes) ≡ places (machine d) p d.state.journal
   fired_after d = let o = one_note v.notes p numbers in ap (λ ns. first_fired (map (noted d) ns)) o.1 ∙ ap (λ (q : ℕ). places (machine d) q d.state.journal) o.2
@@ -144,7 +144,7 @@ module _ (v : View) (p told : ℕ) (letter : Option ℕ) (numbers : map number_o
   here_by : (a : ℕ) → hand t.hands a ≡ Some p → is_in t.state.arrived p ≡ true
   here_by a mine = let o = only k.covered a p mine in (parts (machine t) t.state a p o.1 o.2).0
 
-  waits_here : (d : TableState) (s : Served) → Tells s told p d → d.state.arrived ≡ t.state.arrived → d.hands ≡ t.hands → is_in d.state.ended p ≡ true →
+  waits_here : (d : TableState) (s : Served) → TellsServed s told p d → d.state.arrived ≡ t.state.arrived → d.hands ≡ t.hands → is_in d.state.ended p ≡ true →
       ((b : Bool) → answered s b ≡ Some Ended) ⊎ (is_in t.state.arrived p ≡ true)
   waits_here d (served.Fired q) h e f g = absurd (false_true (sym h.2 ∙ g))
   waits_here d (served.Waiting a missing by) h e f g = inr (ap (λ bs. is_in bs p) (sym e) ∙ h.1.arrived)
@@ -172,31 +172,31 @@ module _ (v : View) (p told : ℕ) (letter : Option ℕ) (numbers : map number_o
       let x = arrivals_after d in let y = arrivals_before in let z = told_after d in
       ((omega arith, ended_after d ∙ (ap (λ bs. is_in bs p) ended ∙ sym ended_before)), omega arith)
 
-  moves_of : (d : TableState) → Own p t d → (s : Served) (over : Bool) → Tells s told p d
+  moves_of : (d : TableState) → Own p t d → (s : Served) (over : Bool) → TellsServed s told p d
       → Stays v (given_back 0 d (tried 0 t v)) ⊎ ((ArrivesOnce v (given_back 0 d (tried 0 t v)) × IsPending (given_back 0 d (tried 0 t v))) ⊎
       (EndsOnce v (given_back 0 d (tried 0 t v)) × (answered s over ≡ Some Ended)))
   moves_of _ OwnNone s over h = inl stays_none
   moves_of _ (OwnArrival a ready nxt short) s over h = inr (inl (arrives_once (arrives p t) refl refl refl away_once_arrived ready.1))
   moves_of _ (OwnTakeUp a ready nxt full) s over h = inr (inl (arrives_once (takes_up a p (arrives p t)) refl refl refl away_once_arrived ready.1))
   moves_of _ (OwnFiring a rs mine) s over h = inl (stays_firing a rs mine)
-  moves_of _ (OwnEnding spent) s over h = let x = arrivals_after (ends p t) in let y = arrivals_before in
+  moves_of _ (OwnEnding spent) s over h = let x = arrivals_after (ends_script p t) in let y = arrivals_before in
       inr (inr (
-        (omega arith, ended_before ∙ spent.1, ended_after (ends p t) ∙ gone_once_ended),
-        ⊎_elim (λ f. f over) (λ here. absurd (no_end_here spent here)) (waits_here (ends p t) s h refl refl gone_once_ended),
+        (omega arith, ended_before ∙ spent.1, ended_after (ends_script p t) ∙ gone_once_ended),
+        ⊎_elim (λ f. f over) (λ here. absurd (no_end_here spent here)) (waits_here (ends_script p t) s h refl refl gone_once_ended),
       ))
 
   untold : IsPending v → is_in t.state.arrived p ≡ false → fired_by (machine t) t.state.journal p ≡ told + 1
   untold e away = let a = arrivals_before in let z = ap (λ b. cond {A = ℕ} b 1 0) away in let l = told_all in omega arith
 
   -- the holds that tell no firing have told of all of them
-  tells_all : (d : TableState) (s : Served) → Tells s told p d → ((is_in d.state.arrived p ≡ false) × (is_in d.state.ended p ≡ false)) ⊎
+  tells_all : (d : TableState) (s : Served) → TellsServed s told p d → ((is_in d.state.arrived p ≡ false) × (is_in d.state.ended p ≡ false)) ⊎
       (fired_by (machine d) d.state.journal p ≡ told)
   tells_all d (served.Fired q) h = inl (h.1, h.2)
   tells_all d (served.Waiting a missing by) h = inr h.0
   tells_all d served.Ended h = inr h.0
   tells_all d (served.TookUp a) h = inr h.0
 
-  waits_of : (d : TableState) → Own p t d → (s : Served) → Tells s told p d → IsPending v → Stays v (given_back 0 d (tried 0 t v))
+  waits_of : (d : TableState) → Own p t d → (s : Served) → TellsServed s told p d → IsPending v → Stays v (given_back 0 d (tried 0 t v))
   waits_of _ OwnNone s h e = stays_none
   waits_of _ (OwnFiring a rs mine) s h e = stays_firing a rs mine
   waits_of _ (OwnArrival a ready nxt short) s h e = absurd (let u = untold e ready.1 in ⊎_elim (λ f. false_true (sym f.0 ∙ away_once_arrived))
@@ -206,7 +206,7 @@ module _ (v : View) (p told : ℕ) (letter : Option ℕ) (numbers : map number_o
   waits_of _ (OwnEnding spent) s h e = absurd (elim (cases_Bool (is_in t.state.arrived p)) [
     | inl here ↦ no_end_here spent here
     | inr away ↦ let u = untold e away in ⊎_elim (λ f. false_true (sym f.1 ∙ gone_once_ended)) (λ f. let l : told + 1 ≡ told = sym u ∙ f in omega arith)
-        (tells_all (ends p t) s h)
+        (tells_all (ends_script p t) s h)
   ])
 
   -- the hold as its answer says
@@ -214,14 +214,14 @@ module _ (v : View) (p told : ℕ) (letter : Option ℕ) (numbers : map number_o
     full_not_over : (a : ℕ) → hand d.hands a ≡ Some p → IsOver (machine d) d.state → ⊥
     full_not_over a mine o = let c = only (own_covered p t d k.fit k.covered own) a p mine in false_true (sym (o.quiet a c.0) ∙ c.1)
 
-    fired_of : (s : Served) (over : Bool) → Tells s told p d → places (machine d) p d.state.journal ≡ with_fired (answered s over) (first_fired v.notes)
+    fired_of : (s : Served) (over : Bool) → TellsServed s told p d → places (machine d) p d.state.journal ≡ with_fired (answered s over) (first_fired v.notes)
     fired_of (served.Fired at) over h = fired_next d at own h.0
     fired_of (served.Waiting a missing by) true h = fired_same d own h.0
     fired_of (served.Waiting a missing by) false h = fired_same d own h.0
     fired_of served.Ended over h = fired_same d own h.0
     fired_of (served.TookUp a) over h = fired_same d own h.0
 
-    says_of : (s : Served) (over : Bool) → Tells s told p d → ((a : ℕ) → letter_number (letter_after s) ≡ Some a → letter ≡ None)
+    says_of : (s : Served) (over : Bool) → TellsServed s told p d → ((a : ℕ) → letter_number (letter_after s) ≡ Some a → letter ≡ None)
         → hand_of d p ≡ letter_number (letter_after s) → (IsTrue over ↔ IsOver (machine d) d.state)
         → Says p (answered s over) v (given_back (cond over 2 0) d (tried 0 t v))
     says_of (served.Fired at) true h new found is = (refl, (h.0.0, h.0.1, h.0.2 ∙ sym told_all))
@@ -240,7 +240,7 @@ module _ (v : View) (p told : ℕ) (letter : Option ℕ) (numbers : map number_o
     here_after a mine = let o = only (own_covered p t d k.fit k.covered own) a p mine in (parts (machine d) d.state a p o.1 o.2).0
 
     -- a process that has ended is answered so
-    ended_of : (s : Served) (over : Bool) → Tells s told p d → is_in d.state.ended p ≡ true → answered s over ≡ Some Ended
+    ended_of : (s : Served) (over : Bool) → TellsServed s told p d → is_in d.state.ended p ≡ true → answered s over ≡ Some Ended
     ended_of (served.Fired q) over h e = absurd (false_true (sym h.2 ∙ e))
     ended_of (served.Waiting a missing by) over h e = absurd (not_both (machine d) d.state sound p h.1.arrived e)
     ended_of served.Ended over h e = refl
@@ -251,14 +251,14 @@ module _ (v : View) (p told : ℕ) (letter : Option ℕ) (numbers : map number_o
     no_more at as_many last = let l = length_places (machine d) p d.state.journal in let m = ap length last.1 in let n = length-append last.0 (at ∷ []) in
         let z = last.2 in let y = told_all in omega arith
 
-    fires_of : (s : Served) (over : Bool) → Tells s told p d → (at : ℕ) → IsLast p (length (first_fired v.notes)) at d → answered s over ≡ Some (Fired at)
+    fires_of : (s : Served) (over : Bool) → TellsServed s told p d → (at : ℕ) → IsLast p (length (first_fired v.notes)) at d → answered s over ≡ Some (Fired at)
     fires_of (served.Fired q) over h at last = ap (λ (x : ℕ). Some (Fired x)) (same_last h.0.0 last.0 q at (sym h.0.1 ∙ last.1)
         (let x = h.0.2 in let y = last.2 in let z = told_all in omega arith))
     fires_of (served.Waiting a missing by) over h at last = absurd (no_more at h.0 last)
     fires_of served.Ended over h at last = absurd (no_more at h.0 last)
     fires_of (served.TookUp a) over h at last = absurd (no_more at h.0 last)
 
-    pub try_held : (s : Served) (over : Bool) → Tells s told p d → ((a : ℕ) → letter_number (letter_after s) ≡ Some a → letter ≡ None)
+    pub try_held : (s : Served) (over : Bool) → TellsServed s told p d → ((a : ℕ) → letter_number (letter_after s) ≡ Some a → letter ≡ None)
         → hand_of d p ≡ letter_number (letter_after s) → (IsTrue over ↔ IsOver (machine d) d.state)
         → Try p v (answered s over) (given_back (cond over 2 0) d (tried 0 t v))
     try_held s over h new found is = record {

@@ -12,11 +12,11 @@ use Rattle.za_hall.specs.declared.turn.Turn.TheVariants.{Fired, Ended, Waiting, 
 use Rattle.za_hall.specs.Places.{places}
 use Rattle.za_hall.specs.Views.{View, Note}
 use Rattle.za_hall.specs.Own.{machine, Own}
-use Rattle.za_hall.specs.Steps.{blank}
+use Rattle.za_hall.specs.Steps.{blank_note}
 
 -- a desk has one number: what its view notes of it
 abbrev pub first_note : List Note → Note
-first_note [] = blank 0
+first_note [] = blank_note 0
 first_note (n ∷ ns) = n
 
 abbrev pub note_of : View → Note
@@ -110,9 +110,9 @@ Call p v turn w = Try p v (Some turn) w ⊎ ((u : View) × Try p v None u × Try
 
 -- what a waiting step answers, for a process that had or had not ended before: neither Busy nor Waiting, and Ended
 -- once
-abbrev pub IsAnswered : Bool → Turn → Type 0
-IsAnswered had_ended (Fired at) = Unit {0}
-IsAnswered had_ended Ended = had_ended ≡ false
-IsAnswered had_ended (Waiting a missing by) = ⊥
-IsAnswered had_ended Busy = ⊥
-IsAnswered had_ended Over = Unit {0}
+abbrev pub EndsStep : Bool → Turn → Type 0
+EndsStep had_ended (Fired at) = Unit {0}
+EndsStep had_ended Ended = had_ended ≡ false
+EndsStep had_ended (Waiting a missing by) = ⊥
+EndsStep had_ended Busy = ⊥
+EndsStep had_ended Over = Unit {0}

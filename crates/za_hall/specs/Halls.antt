@@ -7,7 +7,7 @@ use Rattle.za_hall.specs.declared.refusal.CloseWhy.{CloseWhy}
 use Rattle.za_hall.specs.declared.refusal.CloseWhy.TheVariants.{Missing, NotOver}
 use Rattle.za_hall.specs.Views.{View}
 use Rattle.za_hall.specs.Rule.{FiredOk, arrivals_of}
-use Rattle.za_hall.specs.Steps.{blank}
+use Rattle.za_hall.specs.Steps.{blank_note}
 use Rattle.za_hall.specs.Answers.{note_of}
 
 -- a name, which only contracts see, and the job
@@ -37,16 +37,16 @@ pub record IsSameDesk (d e : DeskState) : Type 0 where
   pub given : e.view.given ≡ d.view.given
 
 -- a desk of the hall for the process p, which has done nothing
-pub record IsFresh (h : HallState) (p : ℕ) (d : DeskState) : Type 0 where
+pub record IsNewDesk (h : HallState) (p : ℕ) (d : DeskState) : Type 0 where
   pub of : IsOf d h
   pub number : d.number ≡ p
-  pub notes : d.view.notes ≡ blank p ∷ []
+  pub notes : d.view.notes ≡ blank_note p ∷ []
   pub over : d.view.over ≡ false
 
 -- the desks of the processes below n, in order
 pub record AreDesks (h : HallState) (n : ℕ) (ds : List DeskState) : Type 0 where
   pub size : length ds ≡ n
-  pub each : (p : ℕ) (d : DeskState) → p < length ds → IsFresh h p (slice_index_or ds p d)
+  pub each : (p : ℕ) (d : DeskState) → p < length ds → IsNewDesk h p (slice_index_or ds p d)
 
 -- what the desk knows of its process is so at the table: its arrivals, its ending, and the places of its events
 pub record IsToldBy (t : TableState) (d : DeskState) : Type 0 where

@@ -14,8 +14,8 @@ abbrev pub arrives : ℕ → TableState → TableState
 arrives p t = record t { state = arrive p t.state }
 
 -- the process ends
-abbrev pub ends : ℕ → TableState → TableState
-ends p t = record t { state = end_at p t.state }
+abbrev pub ends_script : ℕ → TableState → TableState
+ends_script p t = record t { state = end_at p t.state }
 
 -- the process takes the letter up
 abbrev pub takes_up : ℕ → ℕ → TableState → TableState
@@ -40,4 +40,4 @@ pub data Own (p : ℕ) (t : TableState) : TableState → Type 0 where
       (a : ℕ) → IsAllowed (machine t) t.state (Arrive p) → next (machine t) t.state.journal p ≡ Some a →
       is_complete (machine t) (arrive p t.state) a ≡ true → Own p t (takes_up a p (arrives p t))
   OwnFiring : (a : ℕ) (records : Records) → hand t.hands a ≡ Some p → Own p t (settles a records t)
-  OwnEnding : IsAllowed (machine t) t.state (End p) → Own p t (ends p t)
+  OwnEnding : IsAllowed (machine t) t.state (End p) → Own p t (ends_script p t)

@@ -11,13 +11,13 @@ use Rattle.za_hall.specs.Own.{machine}
 use Rattle.za_hall.specs.Rule.{Slot, Hand, NoteOk, EachNote, IsFit, IsCovered, arrivals_of}
 
 -- what is noted of a process that has done nothing
-abbrev pub blank : ℕ → Note
-blank k = record { number = k; arrivals = 0; ended = false; fired = []; hand = None }
+abbrev pub blank_note : ℕ → Note
+blank_note k = record { number = k; arrivals = 0; ended = false; fired = []; hand = None }
 
 -- the notes of n processes, the first of which is k
 abbrev pub blank_notes : ℕ → ℕ → List Note
 blank_notes k zero = []
-blank_notes k (suc n) = blank k ∷ blank_notes (suc k) n
+blank_notes k (suc n) = blank_note k ∷ blank_notes (suc k) n
 
 -- the view of the first seat of a hall for this table
 abbrev pub first_view : TableState → View
@@ -51,8 +51,8 @@ pub record Taken (t : TableState) (v : View) : Type 0 where
   pub notes : EachNote (NoteOk t) v.notes
 
 -- the seat after a try that found n
-abbrev pub Took : Hand → ℕ → Hand → Type 0
-Took m n m' = (n < 3) × ((t : TableState) × (m' ≡ (tried n t m.0, carries n t)) × (n ≡ 0 → Taken t m.0))
+abbrev pub TookHand : Hand → ℕ → Hand → Type 0
+TookHand m n m' = (n < 3) × ((t : TableState) × (m' ≡ (tried n t m.0, carries n t)) × (n ≡ 0 → Taken t m.0))
 
 -- the table that a seat has out
 abbrev pub held : List (ℕ × Slot) → TableState → TableState
@@ -89,9 +89,9 @@ abbrev pub Gave : Hand → ℕ → Hand → Type 0
 Gave m n m' = m' ≡ (given_back n (held m.1 m.0.took) m.0, [])
 
 -- the notes but for the first
-abbrev pub others : List Note → List Note
-others [] = []
-others (n ∷ ns) = ns
+abbrev pub other_notes : List Note → List Note
+other_notes [] = []
+other_notes (n ∷ ns) = ns
 
 -- the first alone
 abbrev pub head : List Note → List Note
@@ -100,7 +100,7 @@ head (n ∷ ns) = n ∷ []
 
 -- where a seat is cut in two, the new one gets the first number, and this one keeps the others
 abbrev pub left_of : View → View
-left_of v = record v { notes = others v.notes }
+left_of v = record v { notes = other_notes v.notes }
 
 abbrev pub right_of : View → View
 right_of v = record v { notes = head v.notes; holds = false }

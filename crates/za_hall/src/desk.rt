@@ -2,7 +2,7 @@
 ghost use Rattle.std.specs.Prelude.{◌≡◌, ◌<◌, ℕ, ◌∷◌, [], map, Some};
 ghost use Rattle.za_shared.specs.Records.{IsTransition};
 ghost use Rattle.za_local.specs.Locals.{HasShape};
-ghost use Rattle.za_hall.specs.Private.Serving.{Rests, FitsDfa, letter_number, number_of};
+ghost use Rattle.za_hall.specs.Private.Serving.{Rests, FitsDfa, letter_number, note_number};
 
 use crate::view::Known;
 use atomic_table::Seat;

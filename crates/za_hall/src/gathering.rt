@@ -1,6 +1,6 @@
 //! The table of a hall, once the desks of all processes are handed in.
 ghost use Rattle.std.specs.Prelude.{◌≡◌, ◌≢◌, ◌<◌, ℕ, [], ◌∷◌, map, length, All, Any, true, false, None};
-ghost use Rattle.za_hall.specs.Private.Serving.{number_of};
+ghost use Rattle.za_hall.specs.Private.Serving.{note_number};
 ghost use Rattle.za_machine.specs.Machine.{IsOver, IsMachineState};
 ghost use Rattle.za_machine.specs.Hands.{hand};
 ghost use Rattle.za_hall.specs.Own.{machine};
@@ -21,7 +21,7 @@ fn seat_of(desk: Desk) -> Seat<Option<Table>, Known>
     ensures name { result.table_id ≡ desk.name }
     ensures view { result.me.0 ≡ desk.view }
     ensures free { (result.me.0.holds ≡ false) × (result.me.1 ≡ []) }
-    ensures number { map number_of result.me.0.notes ≡ desk.number ∷ [] }
+    ensures number { map note_number result.me.0.notes ≡ desk.number ∷ [] }
 {
     let Desk { parts } = desk;
     let DeskParts {

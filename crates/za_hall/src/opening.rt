@@ -5,8 +5,8 @@ ghost use Rattle.za_local.specs.Locals.{HasShape};
 ghost use Rattle.za_table.specs.Tables.{IsTable};
 ghost use Rattle.za_hall.specs.Views.{Note};
 ghost use Rattle.za_hall.specs.Own.{machine};
-ghost use Rattle.za_hall.specs.Steps.{blank, blank_notes, first_view, left_of};
-ghost use Rattle.za_hall.specs.Halls.{IsFresh, AreDesks};
+ghost use Rattle.za_hall.specs.Steps.{blank_note, blank_notes, first_view, left_of};
+ghost use Rattle.za_hall.specs.Halls.{IsNewDesk, AreDesks};
 ghost use Rattle.za_hall.specs.Private.Serving.{FitsDfa};
 ghost use Rattle.za_hall.specs.Private.Inside.{hall_of};
 
@@ -33,11 +33,11 @@ fn cut(
     requires inside { process < hall.now.processes }
     requires hall { rest.old.table_id ≡ hall.now.board.shared.table_id }
     requires job { rest.old.me.0.given ≡ (hall_of hall.now).given }
-    requires next { (ns : List Note) × (rest.old.me.0.notes ≡ blank process ∷ ns) }
+    requires next { (ns : List Note) × (rest.old.me.0.notes ≡ blank_note process ∷ ns) }
     requires free { (rest.old.me.0.holds ≡ false) × (rest.old.me.0.over ≡ false) }
     requires bench { FitsDfa hall.now.closed bench }
     requires made { HasShape hall.now.closed.alphabet.processes hall.now.closed.states made }
-    ensures desk { IsFresh (hall_of hall.now) process result }
+    ensures desk { IsNewDesk (hall_of hall.now) process result }
     ensures rest { (rest.new.table_id ≡ rest.old.table_id) × (rest.new.me.0 ≡ left_of rest.old.me.0) }
 {
     let seat = hall.board.shared.split_seat::<Opening>(rest);

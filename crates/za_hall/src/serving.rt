@@ -9,7 +9,7 @@ ghost use Rattle.za_hall.specs.Own.{machine, Own};
 ghost use Rattle.za_hall.specs.Rule.{IsFit, IsCovered};
 ghost use Rattle.za_hall.specs.Steps.{hand_of};
 ghost use Rattle.za_hall.specs.Answers.{IsLast};
-ghost use Rattle.za_hall.specs.Private.Serving.{FitsDfa, Tells, letter_after, letter_number};
+ghost use Rattle.za_hall.specs.Private.Serving.{FitsDfa, TellsServed, letter_after, letter_number};
 
 use za_alpha::{Letter, Procs};
 use za_local::{Bench, Local};
@@ -56,7 +56,7 @@ fn arrive_or_end(table: &mut Table, process: usize, told: usize, bench: &mut Ben
     requires free { (a : ℕ) → hand table.old.hands a ≡ Some process → ⊥ }
     requires bench { FitsDfa table.old.given.dfa bench.old }
     ensures own { Own process table.old table.new }
-    ensures answer { Tells result told process table.new }
+    ensures answer { TellsServed result told process table.new }
     ensures hand { hand_of table.new process ≡ letter_number (letter_after result) }
     ensures bench { FitsDfa table.old.given.dfa bench.new }
     ensures taken { (a : ℕ) → letter_number (letter_after result) ≡ Some a → (a < (machine table.old).letters)
@@ -113,7 +113,7 @@ pub(crate) fn serve(
     requires ready { (a : ℕ) → letter_number letter ≡ Some a →
         IsTransition table.old.given.dfa a bench.old.locals made.now }
     ensures own { Own process table.old table.new }
-    ensures answer { Tells result told process table.new }
+    ensures answer { TellsServed result told process table.new }
     ensures hand { hand_of table.new process ≡ letter_number (letter_after result) }
     ensures bench { FitsDfa table.old.given.dfa bench.new }
     ensures taken { (a : ℕ) → letter_number (letter_after result) ≡ Some a →

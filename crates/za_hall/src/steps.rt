@@ -4,7 +4,7 @@ ghost use Rattle.za_machine.specs.Machine.{IsOver};
 ghost use Rattle.za_table.specs.Tables.{TableState};
 ghost use Rattle.za_hall.specs.Views.{Note};
 ghost use Rattle.za_hall.specs.Own.{machine, Own};
-ghost use Rattle.za_hall.specs.Steps.{Took, Gave, Taken, tried, given_back};
+ghost use Rattle.za_hall.specs.Steps.{TookHand, Gave, Taken, tried, given_back};
 
 use crate::hall::HallParts;
 use crate::view::Known;
@@ -14,7 +14,7 @@ use za_table::Table;
 pub(crate) struct Taking;
 
 impl Play<Option<Table>, Known> for Taking {
-    ghost then = { λ _. Took };
+    ghost then = { λ _. TookHand };
 }
 
 pub(crate) struct Giving;

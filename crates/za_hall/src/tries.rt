@@ -5,7 +5,7 @@ ghost use Rattle.za_local.specs.Locals.{AreLocalsAfter, HasShape};
 ghost use Rattle.za_shared.specs.Records.{IsTransition};
 ghost use Rattle.std.specs.Prelude.{List};
 ghost use Rattle.za_hall.specs.Answers.{with_fired, note_of, Try, Call, Stays, ArrivesOnce, EndsOnce};
-ghost use Rattle.za_hall.specs.Answers.{GaveEnded, GaveFired, IsAnswered};
+ghost use Rattle.za_hall.specs.Answers.{GaveEnded, GaveFired, EndsStep};
 ghost use Rattle.za_hall.specs.Halls.{IsOf, IsSameDesk, fired};
 ghost use Rattle.za_hall.specs.Private.Serving.{letter_number, letter_after, answered};
 ghost use Rattle.za_hall.specs.Private.Inside.{hall_of, desk_of};
@@ -71,7 +71,7 @@ enum Pause {
 
 /// Whether a step goes on after this answer, of a process that had or hadn't ended before.
 fn pause_after(turn: Turn, had_ended: bool) -> Pause
-    ensures { (result ≡ Pause.None) ↔ IsAnswered had_ended turn }
+    ensures { (result ≡ Pause.None) ↔ EndsStep had_ended turn }
 {
     match turn {
         Turn::Fired { at: _ } | Turn::Over => Pause::None,
@@ -194,7 +194,7 @@ impl Desk {
         requires { IsOf self.old hall.now }
         ensures desk { IsSameDesk self.old self.new }
         ensures fired { fired self.new ≡ with_fired (Some result) (fired self.old) }
-        ensures answer { IsAnswered (note_of self.old.view).ended result }
+        ensures answer { EndsStep (note_of self.old.view).ended result }
         ensures once { Stays self.old.view self.new.view ⊎ ArrivesOnce self.old.view self.new.view
             ⊎ EndsOnce self.old.view self.new.view }
         ensures fires { (at : ℕ) → (result ≡ Turn.Fired at) ↔

@@ -1,5 +1,6 @@
 -- Marks of the numbers of a column, and of all columns that can have them.
-use Rattle.std.proofs.Common.{◌≡◌, ◌↔◌, ℕ, zero, suc, ◌+◌, ◌*◌, ◌/◌, ◌%◌, ◌^◌, ◌<◌, ◌≤◌, ◌==◌, Bool, true, false, List, [], ◌∷◌, length, sym, ap, subst, ◌∙◌, arith, inl, inr}
+use Rattle.std.proofs.Common.{◌≡◌, ◌↔◌, ℕ, zero, suc, ◌+◌, ◌*◌, ◌/◌, ◌%◌, ◌^◌, ◌<◌, ◌≤◌, ◌==◌, Bool, true, false, List, [], ◌∷◌, length, sym, ap, subst, ◌∙◌}
+use Rattle.std.proofs.Common.{arith, inl, inr}
 use Rattle.std.proofs.Common.{eqb-true, eq-eqb, get_or-set_same, get_or-set_other}
 use Rattle.std.specs.Prelude.{slice_index, slice_index_or, slice_set}
 use Rattle.std.proofs.Math.Nat.{div-lt_iff_lt-mul, mod-lt}
@@ -19,7 +20,8 @@ marked-more ids n i s first labels old taken place l is h = record {
   size = length-set taken place true ∙ h.size;
   kept = λ k o. still k (h.kept k o);
   marked = λ j k lj lk e. elim (cases_eq j i) [
-    | inl same ↦ ap (λ (x : ℕ). slice_index_or (slice_set taken place true) x false) (sym ((is k lk).1 (ap (λ (x : ℕ). slice_index ids (x * n + s)) (sym same) ∙ e)))
+    | inl same ↦ ap (λ (x : ℕ). slice_index_or (slice_set taken place true) x false)
+        (sym ((is k lk).1 (ap (λ (x : ℕ). slice_index ids (x * n + s)) (sym same) ∙ e)))
         ∙ get_or-set_same taken place true false l
     | inr other ↦ still k (h.marked j k (omega arith) lk e)
   ];
@@ -52,9 +54,11 @@ stands-in (x ∷ xs) zero v l e = or_left (x == v) (has xs v) (eq-eqb x v e)
 stands-in (x ∷ xs) (suc j) v l e = or_right (x == v) (has xs v) (stands-in xs j v (omega arith) e)
 
 -- all columns that can have a number of the letter were marked
-module _ (n a : ℕ) (some : 0 < n) (columns ids : List ℕ) (own : AreInColumns n a columns ids) (size : length ids ≡ n * n * n) (taken : List Bool) (first labels : ℕ)
+module _ (n a : ℕ) (some : 0 < n) (columns ids : List ℕ) (own : AreInColumns n a columns ids) (size : length ids ≡ n * n * n) (taken : List Bool)
+    (first labels : ℕ)
     (is : first ≡ number_of n a 0) (count : labels ≡ n ^ 3 + 1)
-    (marked : (i s k : ℕ) → i < n * n → s < n → has columns s ≡ true → k < labels → slice_index ids (i * n + s) ≡ first + k → slice_index_or taken k false ≡ true)
+    (marked : (i s k : ℕ) → i < n * n → s < n → has columns s ≡ true → k < labels → slice_index ids (i * n + s) ≡ first + k →
+    slice_index_or taken k false ≡ true)
     (sound : (k : ℕ) → k < labels → slice_index_or taken k false ≡ true → (j : ℕ) × (slice_index ids j ≡ first + k)) where
   pub all-marked : (k : ℕ) → k ≤ n ^ 3 → slice_index_or taken k false ≡ has ids (number_of n a k)
   all-marked k l = elim (cases_Bool (has ids (number_of n a k))) [

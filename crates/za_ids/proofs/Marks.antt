@@ -1,5 +1,6 @@
 -- Marks of the labels whose numbers are in a list.
-use Rattle.std.proofs.Common.{◌≡◌, ◌↔◌, ℕ, ◌+◌, ◌<◌, ◌≤◌, Bool, true, false, ◌||◌, ◌==◌, inl, inr, List, [], ◌∷◌, length, take, get_or, set, replicate, refl, sym, ap, ◌∙◌, arith, eq-eqb, ne_eqb, get_or-set_same, get_or-set_other}
+use Rattle.std.proofs.Common.{◌≡◌, ◌↔◌, ℕ, ◌+◌, ◌<◌, ◌≤◌, Bool, true, false, ◌||◌, ◌==◌, inl, inr, List, [], ◌∷◌, length, take, get_or, set, replicate, refl}
+use Rattle.std.proofs.Common.{sym, ap, ◌∙◌, arith, eq-eqb, ne_eqb, get_or-set_same, get_or-set_other}
 use Rattle.std.specs.List.{list_any}
 use Rattle.std.proofs.lemmas.Bool.{cases_eq, or_right}
 use Rattle.std.proofs.lemmas.List.{length-set, length-replicate, get_or-replicate}
@@ -24,7 +25,8 @@ pub record AreMarked (number : ℕ → ℕ) (most : ℕ) (ids : List EventId) (t
 
 module _ (number : ℕ → ℕ) (most : ℕ) (ids : List EventId) where
   -- whether the first i + 1 have a number
-  has-more : (i v : ℕ) (d : EventId) → i < length ids → has (event_numbers (take (i + 1) ids)) v ≡ (has (event_numbers (take i ids)) v || (get_or ids i d).0 == v)
+  has-more : (i v : ℕ) (d : EventId) → i < length ids →
+      has (event_numbers (take (i + 1) ids)) v ≡ (has (event_numbers (take i ids)) v || (get_or ids i d).0 == v)
   has-more i v d l =
       let test : EventId → Bool = λ id. id.0 == v in
       has-numbers (take (i + 1) ids) v ∙ list_any_more test ids i d l ∙ ap (λ b. b || (get_or ids i d).0 == v) (sym (has-numbers (take i ids) v))
@@ -44,9 +46,13 @@ module _ (number : ℕ → ℕ) (most : ℕ) (ids : List EventId) where
       | inl same ↦
           ap (λ j. get_or (set taken place true) j false) same
           ∙ get_or-set_same taken place true false (let r = m.room in omega arith)
-          ∙ sym (has-more i (number k) d l ∙ or_right (has (event_numbers (take i ids)) (number k)) ((get_or ids i d).0 == number k) (eq-eqb (get_or ids i d).0 (number k) ((own k h).0 (sym same))))
+          ∙ sym (has-more i (number k) d l
+          ∙ or_right (has (event_numbers (take i ids)) (number k)) ((get_or ids i d).0 == number k)
+          (eq-eqb (get_or ids i d).0 (number k) ((own k h).0 (sym same))))
       | inr ne ↦
           get_or-set_other taken place k true false ne ∙ m.marks k h
-          ∙ sym (has-more i (number k) d l ∙ ap (λ b. has (event_numbers (take i ids)) (number k) || b) (ne_eqb (get_or ids i d).0 (number k) (λ e. ne (sym ((own k h).1 e)))) ∙ or-none (has (event_numbers (take i ids)) (number k)))
+          ∙ sym (has-more i (number k) d l
+          ∙ ap (λ b. has (event_numbers (take i ids)) (number k) || b) (ne_eqb (get_or ids i d).0 (number k) (λ e. ne (sym ((own k h).1 e))))
+          ∙ or-none (has (event_numbers (take i ids)) (number k)))
     ];
   }

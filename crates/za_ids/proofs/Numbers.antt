@@ -32,5 +32,6 @@ pub labels-fill : (n a m : ℕ) (xs : List ℕ) → ((k : ℕ) → k < m → has
 labels-fill n a m xs h =
     let label : ℕ → ℕ = λ v. v - number_of n a 0 in
     let long = length-map xs label in
-    let most = pigeonhole m (map label xs) (λ k l. has-map label xs k ∙ any-here (λ v. label v == k) xs (number_of n a k) (h k l) (eq-eqb (label (number_of n a k)) k (omega arith))) in
+    let most = pigeonhole m (map label xs)
+    (λ k l. has-map label xs k ∙ any-here (λ v. label v == k) xs (number_of n a k) (h k l) (eq-eqb (label (number_of n a k)) k (omega arith))) in
     omega arith

@@ -1,5 +1,6 @@
 -- Scripts to which letters are appended.
-use Rattle.std.proofs.Common.{◌≡◌, ◌≢◌, ℕ, zero, suc, ◌+◌, ◌<◌, ◌≤◌, true, List, [], ◌∷◌, ◌++◌, length, replicate, refl, sym, ap, subst, ◌∙◌, arith, inl, inr, append_assoc, length-append, set, length-set, get_or-set_other, get_or-set_same}
+use Rattle.std.proofs.Common.{◌≡◌, ◌≢◌, ℕ, zero, suc, ◌+◌, ◌<◌, ◌≤◌, true, List, [], ◌∷◌, ◌++◌, length, replicate, refl, sym, ap, subst, ◌∙◌, arith, inl, inr}
+use Rattle.std.proofs.Common.{append_assoc, length-append, set, length-set, get_or-set_other, get_or-set_same}
 use Rattle.std.specs.Prelude.{All}
 use Rattle.std.proofs.lemmas.Bool.{cases_eq}
 use Rattle.std.proofs.lemmas.List.{append-nil, length-replicate}
@@ -16,7 +17,8 @@ all_run P zero a h = All-nil P
 all_run P (suc n) a h = All-cons P a (replicate n a) h (all_run P n a h)
 
 -- so many of a letter more
-pub added_run : (alphabet : DistributedAlphabet) (old new : List (List ℕ)) (p a count : ℕ) → p < length old → AreScripts old → total_of old + count ≤ most_script_letters →
+pub added_run : (alphabet : DistributedAlphabet) (old new : List (List ℕ)) (p a count : ℕ) → p < length old → AreScripts old →
+    total_of old + count ≤ most_script_letters →
     a < length alphabet.letters → has (loc_of alphabet a) p ≡ true →
     new ≡ set old p (script_of old p ++ replicate count a) → AreAdded alphabet old new p (replicate count a)
 added_run alphabet old new p a count inside limits room known own e =
@@ -89,7 +91,8 @@ added_fit alphabet old new p us inside h fit =
           elim (cases_eq q p) [
             | inl e ↦
                 let P : ℕ → Type 0 = λ r. All (IsLetterOf alphabet r) (script_of new r) in
-                subst P (sym e) (subst (λ s. All (IsLetterOf alphabet p) s) (sym (added_same alphabet old new p us inside h)) (All-append (IsLetterOf alphabet p) (script_of old p) us (fit.own p inside) h.own))
+                subst P (sym e) (subst (λ s. All (IsLetterOf alphabet p) s) (sym (added_same alphabet old new p us inside h))
+                (All-append (IsLetterOf alphabet p) (script_of old p) us (fit.own p inside) h.own))
             | inr other ↦ subst (λ s. All (IsLetterOf alphabet q) s) (sym (added_other alphabet old new p q us other h)) (fit.own q there)
           ];
     }

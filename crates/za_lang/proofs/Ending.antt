@@ -22,7 +22,8 @@ use Rattle.za_lang.specs.declared.order.Head.TheVariants.{Zla, Processes, Letter
 use Rattle.za_lang.specs.declared.order.Place.{Place}
 use Rattle.za_lang.specs.declared.order.Place.TheVariants.{AtHeader, AtProcesses, AtFirstLetter, AtLetters, AtStart, AtAccept, AtRows, AtScripts, AfterEnd}
 use Rattle.za_lang.specs.Order.{head_of, next_place, order_fault}
-use Rattle.za_lang.specs.Documents.{Said, said, version_by, version_of, begins_comment, but_comments, words_in, own_fault, words_fault, line_fault, next_fault, end_fault, faults_from}
+use Rattle.za_lang.specs.Documents.{Said, said, version_by, version_of, begins_comment, but_comments, words_in, own_fault, words_fault, line_fault, next_fault}
+use Rattle.za_lang.specs.Documents.{end_fault, faults_from}
 use Rattle.za_lang.specs.Gathering.{more}
 use Rattle.za_lang.proofs.Saying.{said_none, said_version, said_more}
 
@@ -138,8 +139,10 @@ other_head : (w : List ℕ) → bytes_eq w (codes "end") ≡ false → head_of w
 unfolding by_tests
 other_head w f h =
     let is = λ (word : List ℕ). bytes_eq w word in
-    not_end (is (codes "zla")) (is (codes "processes")) (is (codes "letter")) (is (codes "states")) (is (codes "start")) (is (codes "accept")) (is (codes "row")) (is (codes "script"))
-    (subst (λ i. by_tests (is (codes "zla")) (is (codes "processes")) (is (codes "letter")) (is (codes "states")) (is (codes "start")) (is (codes "accept")) (is (codes "row")) (is (codes "script")) i ≡ End) f h)
+    not_end (is (codes "zla")) (is (codes "processes")) (is (codes "letter")) (is (codes "states")) (is (codes "start")) (is (codes "accept"))
+    (is (codes "row")) (is (codes "script"))
+    (subst (λ i. by_tests (is (codes "zla")) (is (codes "processes")) (is (codes "letter")) (is (codes "states")) (is (codes "start")) (is (codes "accept"))
+    (is (codes "row")) (is (codes "script")) i ≡ End) f h)
 
 next_other : (p : Place) (h : Head) → (h ≡ End → ⊥) → (p ≡ AfterEnd → ⊥) → next_place p h ≡ AfterEnd → ⊥
 next_other p Zla other open_before e = absurd (cc)
@@ -154,7 +157,8 @@ next_other p End other open_before e = absurd (other refl)
 next_other p Other other open_before e = absurd (open_before e)
 
 -- so after any other line all isn't read, where it wasn't before
-still_open : (v : Version) (s : Said) (ws : List (List ℕ)) → first_is (codes "end") ws ≡ false → (s.place ≡ AfterEnd → ⊥) → (more s (but_comments v ws)).place ≡ AfterEnd → ⊥
+still_open : (v : Version) (s : Said) (ws : List (List ℕ)) → first_is (codes "end") ws ≡ false → (s.place ≡ AfterEnd → ⊥) →
+    (more s (but_comments v ws)).place ≡ AfterEnd → ⊥
 still_open v s [] f open_before e = open_before e
 still_open v s (w ∷ ws) f open_before e =
     elim (cases_Bool (begins_comment v w)) [
@@ -207,7 +211,8 @@ module _ (v : Version) where
       faults_from v before (l ∷ front) ≡ None
   right_first before front l here later = rw here later
 
-  right_last : (before : List RawLine) (l : RawLine) → line_fault (said v before) l ≡ None → (said v (before ++ l ∷ [])).place ≡ AfterEnd → faults_from v before (l ∷ []) ≡ None
+  right_last : (before : List RawLine) (l : RawLine) → line_fault (said v before) l ≡ None → (said v (before ++ l ∷ [])).place ≡ AfterEnd →
+      faults_from v before (l ∷ []) ≡ None
   right_last before l here there = rw (here, there) refl
 
   pub divided : (before ls : List RawLine) → ((said v before).place ≡ AfterEnd → ⊥) → faults_from v before ls ≡ None → AreDivided before ls

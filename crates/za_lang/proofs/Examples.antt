@@ -1,7 +1,8 @@
 -- The definitions of documents, held against small texts.
 use Rattle.std.proofs.Common.{◌≡◌, ℕ, ◌++◌, List, [], ◌∷◌, Some, None, refl}
 use Rattle.std.specs.Prelude.{codes}
-use Rattle.za_text.specs.declared.kind.Kind.TheVariants.{Cut, BadByte, OutOfOrder, WordCount, NoEnd, Trailing, NoSuchState, TwoTargets, NotOfProcess, NoSuchProcess, NoSuchLetter, ScriptsFull, BadRepeat, Header, RepeatedProcess, BadName}
+use Rattle.za_text.specs.declared.kind.Kind.TheVariants.{Cut, BadByte, OutOfOrder, WordCount, NoEnd, Trailing, NoSuchState, TwoTargets, NotOfProcess}
+use Rattle.za_text.specs.declared.kind.Kind.TheVariants.{NoSuchProcess, NoSuchLetter, ScriptsFull, BadRepeat, Header, RepeatedProcess, BadName}
 use Rattle.za_alpha.specs.Procs.{members_below}
 use Rattle.za_lang.specs.Tests.{new_row_fault}
 use Rattle.za_lang.specs.Documents.{said, line_fault, fault_of, job_of}

@@ -30,7 +30,8 @@ pub begins : (v : Version) (all : List RawLine) → AreRead v all 0 all
 begins v all = record { left_are = refl; faults = refl; size = refl }
 
 -- a right line
-pub goes_on : (v : Version) (all : List RawLine) (n m : ℕ) (left : List RawLine) (line : RawLine) (rest : List RawLine) → AreRead v all n left → left ≡ line ∷ rest →
+pub goes_on : (v : Version) (all : List RawLine) (n m : ℕ) (left : List RawLine) (line : RawLine) (rest : List RawLine) → AreRead v all n left →
+    left ≡ line ∷ rest →
     line_fault (said v (take n all)) line ≡ None → m ≡ n + 1 →
     AreRead v all m rest × (said v (take m all) ≡ more (said v (take n all)) (words_in v line))
 goes_on v all n m left line rest h e right step =
@@ -53,12 +54,15 @@ ends v all n left h e =
     let split : take n all ++ drop n all ≡ all = take-append-drop n all in
     let none : drop n all ≡ [] = h.left_are ∙ e in
     let whole : take n all ≡ all = sym (append-nil (take n all)) ∙ (rw none at split) in
-    let done : end_fault (said v (take n all)).place (length (take n all)) ≡ faults_from v [] all = ap (λ ls. faults_from v (take n all) ls) (sym e) ∙ h.faults in
+    let done : end_fault (said v (take n all)).place (length (take n all)) ≡ faults_from v [] all = ap (λ ls. faults_from v (take n all) ls) (sym e)
+    ∙ h.faults in
     (sym done ∙ ap (end_fault (said v (take n all)).place) h.size ∙ ap (λ ls. end_fault (said v ls).place n) whole, whole)
 
 -- a wrong line
-pub stops : (bytes : List ℕ) (n number : ℕ) (left : List RawLine) (line : RawLine) (rest : List RawLine) → AreRead (version_of (lines_of bytes)) (lines_of bytes) n left → left ≡ line ∷ rest →
-    number ≡ n + 1 → (why : Refusal) → IsWrong (line_fault (said (version_of (lines_of bytes)) (take n (lines_of bytes))) line) why → IsRefused bytes (fault_at number why)
+pub stops : (bytes : List ℕ) (n number : ℕ) (left : List RawLine) (line : RawLine) (rest : List RawLine) →
+    AreRead (version_of (lines_of bytes)) (lines_of bytes) n left → left ≡ line ∷ rest →
+    number ≡ n + 1 → (why : Refusal) → IsWrong (line_fault (said (version_of (lines_of bytes)) (take n (lines_of bytes))) line) why →
+    IsRefused bytes (fault_at number why)
 stops bytes n number left line rest h e is refusal.OutOfMemory wrong = tt
 stops bytes n number left line rest h e is (refusal.Wrong kind) wrong =
     let v = version_of (lines_of bytes) in

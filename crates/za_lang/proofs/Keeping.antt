@@ -22,7 +22,9 @@ kept_place (reading.Letters version names letters) s h = ap (λ (t : Said). t.pl
 kept_place (reading.Body place job) s h = h.0
 
 -- a word that is none of the others isn't the header's
-no_header : (b c d e f g h i : Bool) → cond b head.Processes (cond c head.Letter (cond d head.States (cond e head.Start (cond f head.Accept (cond g head.Row (cond h head.Script (cond i head.End head.Other))))))) ≡ head.Zla → ⊥
+no_header : (b c d e f g h i : Bool) →
+    cond b head.Processes (cond c head.Letter
+    (cond d head.States (cond e head.Start (cond f head.Accept (cond g head.Row (cond h head.Script (cond i head.End head.Other))))))) ≡ head.Zla → ⊥
 no_header true c d e f g h i p = cc
 no_header false true d e f g h i p = cc
 no_header false false true e f g h i p = cc
@@ -37,7 +39,9 @@ header_word : (word : List ℕ) → head_of word ≡ head.Zla → word ≡ codes
 header_word word h =
     elim (cases_Bool (bytes_eq word (codes "zla"))) [
       | inl t ↦ (bytes_eq-Decides word (codes "zla")).0 t
-      | inr f ↦ absurd (no_header (bytes_eq word (codes "processes")) (bytes_eq word (codes "letter")) (bytes_eq word (codes "states")) (bytes_eq word (codes "start")) (bytes_eq word (codes "accept")) (bytes_eq word (codes "row")) (bytes_eq word (codes "script")) (bytes_eq word (codes "end")) (rw f at h))
+      | inr f ↦ absurd (no_header (bytes_eq word (codes "processes")) (bytes_eq word (codes "letter")) (bytes_eq word (codes "states"))
+          (bytes_eq word (codes "start")) (bytes_eq word (codes "accept")) (bytes_eq word (codes "row")) (bytes_eq word (codes "script"))
+          (bytes_eq word (codes "end")) (rw f at h))
     ]
 
 -- only a header says version 2

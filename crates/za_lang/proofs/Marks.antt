@@ -1,5 +1,6 @@
 -- Accepting states that are marked one by one.
-use Rattle.std.proofs.Common.{◌≡◌, ℕ, ◌<◌, Bool, true, false, ◌||◌, eqb, List, [], ◌∷◌, ◌++◌, get_or, length, replicate, refl, sym, ap, ◌∙◌, arith, inl, inr, append_assoc, set, length-set, get_or-set_other, get_or-set_same}
+use Rattle.std.proofs.Common.{◌≡◌, ℕ, ◌<◌, Bool, true, false, ◌||◌, eqb, List, [], ◌∷◌, ◌++◌, get_or, length, replicate, refl, sym, ap, ◌∙◌, arith, inl, inr}
+use Rattle.std.proofs.Common.{append_assoc, set, length-set, get_or-set_other, get_or-set_same}
 use Rattle.std.proofs.lemmas.Bool.{cases_eq}
 use Rattle.std.proofs.lemmas.Bool.Decides.{nat_tests}
 use Rattle.std.proofs.lemmas.List.{append-nil, ext_get_or, get_or-replicate, length-replicate}
@@ -34,10 +35,12 @@ marked_one states qs q =
       | inl e ↦
           let own : eqb q i ≡ true = grind (arith, nat_tests) in
           let inside : q < length old = omega arith in
-          ap (λ k. get_or (set old q true) k false) e ∙ get_or-set_same old q true false inside ∙ sym (there ∙ has_more qs q i ∙ or_true (has qs i) (eqb q i) own)
+          ap (λ k. get_or (set old q true) k false) e ∙ get_or-set_same old q true false inside
+          ∙ sym (there ∙ has_more qs q i ∙ or_true (has qs i) (eqb q i) own)
       | inr other ↦
           let apart : eqb q i ≡ false = grind (arith, nat_tests) in
-          get_or-set_other old q i true false other ∙ get_or-map-range_with_len (has qs) 0 states i i false below (omega arith) ∙ sym (there ∙ has_more qs q i ∙ or_false (has qs i) (eqb q i) apart)
+          get_or-set_other old q i true false other ∙ get_or-map-range_with_len (has qs) 0 states i i false below (omega arith)
+          ∙ sym (there ∙ has_more qs q i ∙ or_false (has qs i) (eqb q i) apart)
     ])
 
 -- the marked states are those named before and these

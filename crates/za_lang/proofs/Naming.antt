@@ -1,5 +1,6 @@
 -- What the words of a processes line say where they pass their tests, and the process that a word means.
-use Rattle.std.proofs.Common.{◌≡◌, ap, sym, subst, refl, ℕ, ◌<◌, ◌≤◌, Bool, true, false, not, ◌&&◌, cond, nat_le, List, [], ◌∷◌, ◌++◌, length, append_assoc, arith, Option, Some, None}
+use Rattle.std.proofs.Common.{◌≡◌, ap, sym, subst, refl, ℕ, ◌<◌, ◌≤◌, Bool, true, false, not, ◌&&◌, cond, nat_le, List, [], ◌∷◌, ◌++◌, length, append_assoc}
+use Rattle.std.proofs.Common.{arith, Option, Some, None}
 use Rattle.std.specs.Prelude.{All, IsTrue, nat_lt, is_some, unwrap_or}
 use Rattle.std.proofs.lemmas.Bool.Decides.{nat_tests}
 use Rattle.std.proofs.lemmas.List.{append-nil}
@@ -16,7 +17,8 @@ use Rattle.za_lang.specs.declared.version.Version.TheVariants.{One, Two}
 use Rattle.za_lang.specs.Documents.{names_of}
 use Rattle.za_lang.specs.Limits.{document_processes, document_letters, document_states}
 use Rattle.za_lang.specs.Namings.{Naming, IsNaming}
-use Rattle.za_lang.specs.Tests.{processes_fault, process_count_fault, process_name_fault, process_names_fault, some_names_fault, processes_line_fault, process_number_fault, process_found_fault, process_meant, process_wrong, process_at, process_fault}
+use Rattle.za_lang.specs.Tests.{processes_fault, process_count_fault, process_name_fault, process_names_fault, some_names_fault, processes_line_fault}
+use Rattle.za_lang.specs.Tests.{process_number_fault, process_found_fault, process_meant, process_wrong, process_at, process_fault}
 
 -- the limits of a version are those of all calls, or below
 pub processes_limit : (v : Version) → document_processes v ≤ most_processes
@@ -53,12 +55,14 @@ abbrev IsName : List ℕ → Type 0
 IsName name = IsTrue (is_name name)
 
 -- names that come one after the other are names, and differ
-all_names : (before words : List (List ℕ)) → process_names_fault before words ≡ None → AreApart before → All IsName before → AreApart (before ++ words) × All IsName (before ++ words)
+all_names : (before words : List (List ℕ)) → process_names_fault before words ≡ None → AreApart before → All IsName before → AreApart (before ++ words)
+    × All IsName (before ++ words)
 all_names before [] h apart named = (subst AreApart (sym (append-nil before)) apart, subst (All IsName) (sym (append-nil before)) named)
 all_names before (word ∷ words) h apart named =
     let parts = none_of_or (process_name_fault before word) (process_names_fault (before ++ word ∷ []) words) h in
     let name = name_right before word parts.0 in
-    let more = all_names (before ++ word ∷ []) words parts.1 (apart-more before word apart name.1) (All-append IsName before (word ∷ []) named (All-cons IsName word [] name.0 (All-nil IsName))) in
+    let more = all_names (before ++ word ∷ []) words parts.1 (apart-more before word apart name.1)
+    (All-append IsName before (word ∷ []) named (All-cons IsName word [] name.0 (All-nil IsName))) in
     let e = append_assoc before (word ∷ []) words in
     (subst AreApart e more.0, subst (All IsName) e more.1)
 
@@ -110,13 +114,16 @@ number_right : (n : ℕ) (o : Option ℕ) → process_number_fault n o ≡ None 
 number_right n None h = absurd (let t : true ≡ false = ap is_some h in cc)
 number_right n (Some p) h = let t = true_of_cond (nat_lt p n) _ h in (p, refl, grind (arith, nat_tests))
 
-found_right : (names : List (List ℕ)) (word : List ℕ) (o : Option ℕ) → process_named names word ≡ o → process_found_fault o ≡ None → (p : ℕ) × (o ≡ Some p) × (p < length names)
+found_right : (names : List (List ℕ)) (word : List ℕ) (o : Option ℕ) → process_named names word ≡ o → process_found_fault o ≡ None → (p : ℕ) × (o ≡ Some p)
+    × (p < length names)
 found_right names word None e h = absurd (let t : true ≡ false = ap is_some h in cc)
 found_right names word (Some p) e h = (p, refl, named_within names word p e)
 
-meant_right : (v : Version) (names : List (List ℕ)) (word : List ℕ) → process_wrong v names word ≡ None → (p : ℕ) × (process_meant v names word ≡ Some p) × (p < length names)
+meant_right : (v : Version) (names : List (List ℕ)) (word : List ℕ) → process_wrong v names word ≡ None → (p : ℕ) × (process_meant v names word ≡ Some p)
+    × (p < length names)
 meant_right One names word h = number_right (length names) (numeral_value word) h
 meant_right Two names word h = found_right names word (process_named names word) refl h
 
-pub process_right : (naming : Naming) (word : List ℕ) → process_fault naming word ≡ None → (p : ℕ) × (process_at naming word ≡ Some p) × (p < length naming.names)
+pub process_right : (naming : Naming) (word : List ℕ) → process_fault naming word ≡ None → (p : ℕ) × (process_at naming word ≡ Some p)
+    × (p < length naming.names)
 process_right naming word h = meant_right naming.version naming.names word h

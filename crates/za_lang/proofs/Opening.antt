@@ -14,7 +14,8 @@ use Rattle.za_lang.specs.Reading.{letters_told}
 use Rattle.za_lang.proofs.Marks.{marked_none}
 
 -- the job that a states line begins has what the lines say
-pub blank_told : (naming : Naming) (alphabet : DistributedAlphabet) (words : List (List ℕ)) (n : ℕ) → length naming.names ≡ alphabet.processes → first_number words ≡ Some n →
+pub blank_told : (naming : Naming) (alphabet : DistributedAlphabet) (words : List (List ℕ)) (n : ℕ) → length naming.names ≡ alphabet.processes →
+    first_number words ≡ Some n →
     Tells (blank_job naming alphabet n) (more_said (letters_told naming alphabet) head.States words)
 blank_told naming alphabet words n size e =
     let job = blank_job naming alphabet n in

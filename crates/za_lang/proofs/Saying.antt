@@ -5,7 +5,8 @@ use Rattle.std.proofs.lemmas.List.Sums.{fold-append}
 use Rattle.std.proofs.lemmas.List.Concat.{flat_map-append}
 use Rattle.za_text.specs.Lines.{RawLine}
 use Rattle.za_lang.specs.declared.version.Version.{Version}
-use Rattle.za_lang.specs.Documents.{Said, said, words_in, place_by, place_after, names_by, names_in, naming_in, letters_by, letters_in, letters_from, states_by, states_in, start_by, start_in, accepts_by, accepts_in, rows_by, rows_from, steps_by, steps_from}
+use Rattle.za_lang.specs.Documents.{Said, said, words_in, place_by, place_after, names_by, names_in, naming_in, letters_by, letters_in, letters_from, states_by}
+use Rattle.za_lang.specs.Documents.{states_in, start_by, start_in, accepts_by, accepts_in, rows_by, rows_from, steps_by, steps_from}
 use Rattle.za_lang.specs.Gathering.{more}
 use Rattle.za_lang.specs.Reading.{nothing}
 

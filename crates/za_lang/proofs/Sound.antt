@@ -1,5 +1,6 @@
 -- Bytes that are not refused are a job: what holds of what lines say, line by line.
-use Rattle.std.proofs.Common.{◌≡◌, ℕ, zero, suc, ◌+◌, ◌*◌, ◌/◌, ◌%◌, ◌<◌, ◌≤◌, Bool, true, false, not, ◌&&◌, ◌==◌, cond, nat_le, inl, inr, List, [], ◌∷◌, ◌++◌, length, replicate, refl, sym, ap, subst, ◌∙◌, arith, eqb-true, eq-eqb, append_assoc, length-append, Option, Some, None}
+use Rattle.std.proofs.Common.{◌≡◌, ℕ, zero, suc, ◌+◌, ◌*◌, ◌/◌, ◌%◌, ◌<◌, ◌≤◌, Bool, true, false, not, ◌&&◌, ◌==◌, cond, nat_le, inl, inr, List, [], ◌∷◌, ◌++◌}
+use Rattle.std.proofs.Common.{length, replicate, refl, sym, ap, subst, ◌∙◌, arith, eqb-true, eq-eqb, append_assoc, length-append, Option, Some, None}
 use Rattle.std.specs.Prelude.{All, nat_lt, unwrap_or, is_some, slice_index_or}
 use Rattle.std.specs.List.{cons_option, filter_map}
 use Rattle.std.specs.Option.{option_or, option_map}
@@ -37,8 +38,11 @@ use Rattle.za_lang.specs.Items.{item_of, run_of, letters_of_items}
 use Rattle.za_lang.specs.Limits.{document_letters, document_states}
 use Rattle.za_lang.specs.Namings.{Naming, IsNaming}
 use Rattle.za_lang.specs.Order.{head_of, next_place, order_fault}
-use Rattle.za_lang.specs.Tests.{processes_line_fault, process_at, process_fault, loc_fault, some_loc_fault, kind_of_name, letter_line_fault, states_fault, states_line_fault, state_fault, start_line_fault, named_fault, new_row_fault, row_line_fault, step_fault, items_fault, script_items_fault, script_line_fault}
-use Rattle.za_lang.specs.Documents.{Said, Step, said, version_of, names_of, words_in, first_number, start_said, rows_said, row_of, steps_said, steps_of, letter_of, script_of_steps, scripts_said, job_said, own_fault, words_fault, line_fault, next_fault, end_fault, faults_from}
+use Rattle.za_lang.specs.Tests.{processes_line_fault, process_at, process_fault, loc_fault, some_loc_fault, kind_of_name, letter_line_fault, states_fault}
+use Rattle.za_lang.specs.Tests.{states_line_fault, state_fault, start_line_fault, named_fault, new_row_fault, row_line_fault, step_fault, items_fault}
+use Rattle.za_lang.specs.Tests.{script_items_fault, script_line_fault}
+use Rattle.za_lang.specs.Documents.{Said, Step, said, version_of, names_of, words_in, first_number, start_said, rows_said, row_of, steps_said, steps_of}
+use Rattle.za_lang.specs.Documents.{letter_of, script_of_steps, scripts_said, job_said, own_fault, words_fault, line_fault, next_fault, end_fault, faults_from}
 use Rattle.za_lang.specs.Gathering.{more_said, more}
 use Rattle.za_lang.specs.Letters.{AreFew}
 use Rattle.za_lang.specs.Reading.{nothing}
@@ -54,37 +58,37 @@ abbrev alphabet_said : Said → DistributedAlphabet
 alphabet_said s = record { processes = length s.naming.names; letters = s.letters }
 
 -- each script letter is one of its process
-abbrev AreOwn : DistributedAlphabet → List Step → Type 0
+abbrev pub AreOwn : DistributedAlphabet → List Step → Type 0
 AreOwn alphabet [] = Unit {0}
 AreOwn alphabet (step ∷ steps) = IsLetterOf alphabet step.process step.letter × AreOwn alphabet steps
 
 -- neither a start nor rows nor script letters are said yet
-record IsBare (s : Said) : Type 0 where
-  start : s.start ≡ 0
-  rows : s.rows ≡ []
-  steps : s.steps ≡ []
+pub record IsBare (s : Said) : Type 0 where
+  pub start : s.start ≡ 0
+  pub rows : s.rows ≡ []
+  pub steps : s.steps ≡ []
 
 -- nor states
-record IsStarted (s : Said) : Type 0 where
-  bare : IsBare s
-  begun : IsBegun (alphabet_said s)
-  few : AreFew s.naming.version (alphabet_said s)
-  named : IsNaming s.naming (length s.naming.names)
+pub record IsStarted (s : Said) : Type 0 where
+  pub bare : IsBare s
+  pub begun : IsBegun (alphabet_said s)
+  pub few : AreFew s.naming.version (alphabet_said s)
+  pub named : IsNaming s.naming (length s.naming.names)
 
 -- all is said that a job needs
-record IsWhole (s : Said) : Type 0 where
-  distributed : IsDistributed (alphabet_said s)
-  few : AreFew s.naming.version (alphabet_said s)
-  named : IsNaming s.naming (length s.naming.names)
-  some_state : 1 ≤ s.states
-  few_states : s.states ≤ document_states s.naming.version
-  starts : s.start < s.states
-  targets : (q a t : ℕ) → target_in s.rows q a ≡ Some t → t < s.states
-  own : AreOwn (alphabet_said s) s.steps
-  few_steps : length s.steps ≤ most_script_letters
+pub record IsWhole (s : Said) : Type 0 where
+  pub distributed : IsDistributed (alphabet_said s)
+  pub few : AreFew s.naming.version (alphabet_said s)
+  pub named : IsNaming s.naming (length s.naming.names)
+  pub some_state : 1 ≤ s.states
+  pub few_states : s.states ≤ document_states s.naming.version
+  pub starts : s.start < s.states
+  pub targets : (q a t : ℕ) → target_in s.rows q a ≡ Some t → t < s.states
+  pub own : AreOwn (alphabet_said s) s.steps
+  pub few_steps : length s.steps ≤ most_script_letters
 
 -- what holds at each place
-abbrev IsSound : Place → Said → Type 0
+abbrev pub IsSound : Place → Said → Type 0
 IsSound AtHeader s = IsBare s × (s.letters ≡ [])
 IsSound AtProcesses s = IsBare s × (s.letters ≡ [])
 IsSound AtFirstLetter s = IsStarted s
@@ -105,7 +109,8 @@ states_count : (v : Version) (o : Option ℕ) → states_fault v o ≡ None → 
 states_count v None h = absurd (cc)
 states_count v (Some n) h = let b = bounds n (document_states v) (true_of_cond (nat_le 1 n && nat_le n (document_states v)) _ h) in (n, refl, b.0, b.1)
 
-states_right : (v : Version) (words : List (List ℕ)) → states_line_fault v words ≡ None → (n : ℕ) × (first_number words ≡ Some n) × (1 ≤ n) × (n ≤ document_states v)
+states_right : (v : Version) (words : List (List ℕ)) → states_line_fault v words ≡ None → (n : ℕ) × (first_number words ≡ Some n) × (1 ≤ n)
+    × (n ≤ document_states v)
 states_right v [] h = absurd (cc)
 states_right v (word ∷ []) h = states_count v (numeral_value word) h
 states_right v (word ∷ x ∷ words) h = absurd (cc)
@@ -121,21 +126,24 @@ start_right states (word ∷ x ∷ words) h = absurd (cc)
 
 -- ---- processes of a letter
 
-procs_below : (naming : Naming) (words : List (List ℕ)) → loc_fault naming words ≡ None → (p : ℕ) → has (filter_map (process_at naming) words) p ≡ true → p < length naming.names
+procs_below : (naming : Naming) (words : List (List ℕ)) → loc_fault naming words ≡ None → (p : ℕ) → has (filter_map (process_at naming) words) p ≡ true →
+    p < length naming.names
 procs_below naming [] h p t = absurd (cc)
 procs_below naming (word ∷ words) h p t =
     let parts = none_of_or (process_fault naming word) (loc_fault naming words) h in
     let q = process_right naming word parts.0 in
     let rest : List ℕ = filter_map (process_at naming) words in
     let there : has (q.0 ∷ rest) p ≡ true = ap (λ o. has (cons_option o rest) p) (sym q.1) ∙ t in
-    elim (or_cases (q.0 == p) (has rest p) there) [ inl e ↦ let same = eqb-true q.0 p e in let below = q.2 in omega arith | inr later ↦ procs_below naming words parts.1 p later ]
+    elim (or_cases (q.0 == p) (has rest p) there)
+    [ inl e ↦ let same = eqb-true q.0 p e in let below = q.2 in omega arith | inr later ↦ procs_below naming words parts.1 p later ]
 
 -- the processes of a letter line are processes, and there is one
 record AreProcesses (n : ℕ) (ps : List ℕ) : Type 0 where
   below : (p : ℕ) → has ps p ≡ true → p < n
   some : (p : ℕ) × (has ps p ≡ true)
 
-procs_right : (naming : Naming) (words : List (List ℕ)) → some_loc_fault naming words ≡ None → AreProcesses (length naming.names) (filter_map (process_at naming) words)
+procs_right : (naming : Naming) (words : List (List ℕ)) → some_loc_fault naming words ≡ None →
+    AreProcesses (length naming.names) (filter_map (process_at naming) words)
 procs_right naming [] h = absurd (cc)
 procs_right naming (word ∷ words) h =
     let parts = none_of_or (process_fault naming word) (loc_fault naming words) h in
@@ -148,7 +156,8 @@ procs_right naming (word ∷ words) h =
 
 -- ---- lines up to the states line
 
-still_bare : (s : Said) (h : Head) (words : List (List ℕ)) → start_said s.start h words ≡ s.start → rows_said s.letters h words ≡ [] → steps_said s.naming s.letters h words ≡ [] →
+still_bare : (s : Said) (h : Head) (words : List (List ℕ)) → start_said s.start h words ≡ s.start → rows_said s.letters h words ≡ [] →
+    steps_said s.naming s.letters h words ≡ [] →
     IsBare s → IsBare (more_said s h words)
 still_bare s h words start rows steps bare =
     record {
@@ -169,7 +178,8 @@ no_letters n some few =
       located = record { some = λ a l. absurd (omega arith); below = λ a p l t. absurd (omega arith) };
     }
 
-after_processes : (s : Said) (words : List (List ℕ)) → processes_line_fault s.naming.version words ≡ None → IsSound AtProcesses s → IsStarted (more_said s head.Processes words)
+after_processes : (s : Said) (words : List (List ℕ)) → processes_line_fault s.naming.version words ≡ None → IsSound AtProcesses s →
+    IsStarted (more_said s head.Processes words)
 after_processes s words w h =
     let v = s.naming.version in
     let r = names_right v words w in
@@ -186,7 +196,8 @@ after_processes s words w h =
       named = r.naming;
     }
 
-after_letter : (s : Said) (words : List (List ℕ)) → letter_line_fault s.naming s.letters words ≡ None → IsStarted s → IsSound AtLetters (more_said s head.Letter words)
+after_letter : (s : Said) (words : List (List ℕ)) → letter_line_fault s.naming s.letters words ≡ None → IsStarted s →
+    IsSound AtLetters (more_said s head.Letter words)
 after_letter s [] w h = absurd (cc)
 after_letter s (name ∷ words) w h =
     let v = s.naming.version in
@@ -219,7 +230,8 @@ after_letter s (name ∷ words) w h =
     )
 
 -- the states line, after which all is there that a job needs
-after_states : (s : Said) (words : List (List ℕ)) → states_line_fault s.naming.version words ≡ None → IsSound AtLetters s → IsWhole (more_said s head.States words)
+pub after_states : (s : Said) (words : List (List ℕ)) → states_line_fault s.naming.version words ≡ None → IsSound AtLetters s →
+    IsWhole (more_said s head.States words)
 after_states s words w h =
     let r = states_right s.naming.version words w in
     let n : ℕ = r.0 in
@@ -246,7 +258,8 @@ after_states s words w h =
       some_state = some;
       few_states = r.3;
       starts = omega arith;
-      targets = λ q a to e. absurd (let none : None ≡ Some to = ap (λ rows. target_in rows q a) (sym bare.rows) ∙ e in let b : false ≡ true = ap is_some none in cc);
+      targets = λ q a to e. absurd (let none : None ≡ Some to = ap (λ rows. target_in rows q a) (sym bare.rows) ∙ e in let b : false ≡ true = ap is_some none in
+          cc);
       own = subst (AreOwn (alphabet_said s)) (sym bare.steps) tt;
       few_steps = let k = ap length bare.steps in omega arith;
     } in
@@ -313,7 +326,8 @@ target_below n q a t (Some r) here to old below e = old e
 target_below n q a t None true to old below e = let same : to ≡ t = ap (λ o. unwrap_or o to) e in omega arith
 target_below n q a t None false to old below e = absurd (let b : false ≡ true = ap is_some e in cc)
 
-rows_below : (n : ℕ) (rows : List declared_row.Row) (from letter to : Option ℕ) → ((r : ℕ) → to ≡ Some r → r < n) → ((q a t : ℕ) → target_in rows q a ≡ Some t → t < n) →
+rows_below : (n : ℕ) (rows : List declared_row.Row) (from letter to : Option ℕ) → ((r : ℕ) → to ≡ Some r → r < n) →
+    ((q a t : ℕ) → target_in rows q a ≡ Some t → t < n) →
     (q a t : ℕ) → target_in (rows ++ row_of from letter to) q a ≡ Some t → t < n
 rows_below n rows (Some from) (Some letter) (Some to) last old q a t e =
     let row : declared_row.Row = record { from = from; letter = record { 0 = letter }; to = to } in
@@ -322,7 +336,8 @@ rows_below n rows None letter to last old q a t e = old q a t (ap (λ rs. target
 rows_below n rows (Some from) None to last old q a t e = old q a t (ap (λ rs. target_in rs q a) (sym (append-nil rows)) ∙ e)
 rows_below n rows (Some from) (Some letter) None last old q a t e = old q a t (ap (λ rs. target_in rs q a) (sym (append-nil rows)) ∙ e)
 
-last_state : (states : ℕ) (letters : List NamedLetter) (rows : List declared_row.Row) (from name to : List ℕ) → new_row_fault states letters rows from name to ≡ None →
+last_state : (states : ℕ) (letters : List NamedLetter) (rows : List declared_row.Row) (from name to : List ℕ) →
+    new_row_fault states letters rows from name to ≡ None →
     (r : ℕ) → numeral_value to ≡ Some r → r < states
 unfolding new_row_fault
 last_state states letters rows from name to h r e =
@@ -389,7 +404,8 @@ run_found alphabet p read (Some a) (Some count) known h =
       few = omega arith;
     }
 
-items_found : (v : Version) (alphabet : DistributedAlphabet) (p read : ℕ) (words : List (List ℕ)) → read ≤ most_script_letters → items_fault v alphabet.letters p read words ≡ None →
+items_found : (v : Version) (alphabet : DistributedAlphabet) (p read : ℕ) (words : List (List ℕ)) → read ≤ most_script_letters →
+    items_fault v alphabet.letters p read words ≡ None →
     AreFound alphabet p read (letters_of_items v alphabet.letters words)
 items_found v alphabet p read [] few h = record { own = All-nil (IsLetterOf alphabet p); few = omega arith }
 items_found v alphabet p read (word ∷ words) few h =
@@ -429,7 +445,8 @@ script_steps s (word ∷ words) w h =
     record { own = found_own (alphabet_said s) p.0 (letters_of_items v s.letters words) found.own; few = omega arith } in
     subst (λ o. AreSteps (alphabet_said s) read (steps_of v s.letters o words)) (sym p.1) steps
 
-after_script : (s : Said) (words : List (List ℕ)) → script_line_fault s.naming s.letters (length s.steps) words ≡ None → IsWhole s → IsWhole (more_said s head.Script words)
+after_script : (s : Said) (words : List (List ℕ)) → script_line_fault s.naming s.letters (length s.steps) words ≡ None → IsWhole s →
+    IsWhole (more_said s head.Script words)
 after_script s words w h =
     let new : List Step = steps_said s.naming s.letters head.Script words in
     let steps = script_steps s words w h in
@@ -452,7 +469,8 @@ after_script s words w h =
 
 -- ---- all lines
 
-by_head : (place : Place) (h : Head) (s : Said) (words : List (List ℕ)) → order_fault place h ≡ None → own_fault s h words ≡ None → IsSound place s → IsSound (next_place place h) (more_said s h words)
+pub by_head : (place : Place) (h : Head) (s : Said) (words : List (List ℕ)) → order_fault place h ≡ None → own_fault s h words ≡ None → IsSound place s →
+    IsSound (next_place place h) (more_said s h words)
 by_head AtHeader head.Zla s words o w sound = (still_bare s head.Zla words refl refl refl sound.0, append-nil s.letters ∙ sound.1)
 by_head AtHeader _ s words o w sound = absurd (cc)
 by_head AtProcesses head.Processes s words o w sound = after_processes s words w sound
@@ -498,8 +516,10 @@ at_end AtAccept n s h sound = absurd (cc)
 at_end AtRows n s h sound = absurd (cc)
 at_end AtScripts n s h sound = absurd (cc)
 
-all_right : (v : Version) (before lines : List RawLine) → faults_from v before lines ≡ None → IsSound (said v before).place (said v before) → IsWhole (said v (before ++ lines))
-all_right v before [] h sound = subst (λ ls. IsWhole (said v ls)) (sym (append-nil before)) (at_end (said v before).place (length before) (said v before) h sound)
+all_right : (v : Version) (before lines : List RawLine) → faults_from v before lines ≡ None → IsSound (said v before).place (said v before) →
+    IsWhole (said v (before ++ lines))
+all_right v before [] h sound =
+    subst (λ ls. IsWhole (said v ls)) (sym (append-nil before)) (at_end (said v before).place (length before) (said v before) h sound)
 all_right v before (line ∷ lines) h sound =
     let s = said v before in
     let parts = none_of_or (option_map (next_fault (length before)) (line_fault s line)) (faults_from v (before ++ line ∷ []) lines) h in
@@ -507,7 +527,8 @@ all_right v before (line ∷ lines) h sound =
     let right = subst (λ u. words_fault s (words_in u line) ≡ None) (said_version v before) here in
     let next = after_words s (words_in v line) right sound in
     let P : Said → Type 0 = λ s. IsSound s.place s in
-    subst (λ ls. IsWhole (said v ls)) (append_assoc before (line ∷ []) lines) (all_right v (before ++ line ∷ []) lines parts.1 (subst P (sym (said_more v before line)) next))
+    subst (λ ls. IsWhole (said v ls)) (append_assoc before (line ∷ []) lines)
+    (all_right v (before ++ line ∷ []) lines parts.1 (subst P (sym (said_more v before line)) next))
 
 -- ---- the job
 
@@ -539,7 +560,7 @@ total_few (step ∷ steps) n =
       | inr ge ↦ let k = total-same (script_of_steps (step ∷ steps)) (script_of_steps steps) n (λ q l. other q (λ e. omega arith)) in omega arith
     ]
 
-job_of_whole : (s : Said) → IsWhole s → IsJob (job_said s)
+pub job_of_whole : (s : Said) → IsWhole s → IsJob (job_said s)
 job_of_whole s h =
     let m : ℕ = length s.letters in
     let f : ℕ → Option ℕ = λ i. target_in s.rows (i / m) (i % m) in
@@ -562,7 +583,8 @@ job_of_whole s h =
         targets_below = λ i t e. elim (cases_lt i (s.states * m)) [
           | inl l ↦ h.targets (i / m) (i % m) t (sym (get_or-map-range_with_len f 0 (s.states * m) i i None l (omega arith)) ∙ e)
           | inr ge ↦ absurd (
-              let none : slice_index_or (cells_of s.states m s.rows) i None ≡ None = get_or-eq_default (cells_of s.states m s.rows) None (let long = cells in omega arith) in
+              let none : slice_index_or (cells_of s.states m s.rows) i None ≡ None =
+              get_or-eq_default (cells_of s.states m s.rows) None (let long = cells in omega arith) in
               let b : false ≡ true = ap is_some (sym none ∙ e) in cc)
         ];
       };
@@ -573,7 +595,8 @@ job_of_whole s h =
           let all = total_few s.steps (length s.naming.names) in
           let few_steps = h.few_steps in
           let same : total (script_of scripts) (length scripts) ≡ total (script_of_steps s.steps) (length s.naming.names) =
-          ap (total (script_of scripts)) many ∙ total-same (script_of scripts) (script_of_steps s.steps) (length s.naming.names) (λ p l. ap length (script p l)) in
+          ap (total (script_of scripts)) many
+          ∙ total-same (script_of scripts) (script_of_steps s.steps) (length s.naming.names) (λ p l. ap length (script p l)) in
           record { some_process = omega arith; few_processes = omega arith; few_letters = omega arith };
       fit = record {
         processes = many;

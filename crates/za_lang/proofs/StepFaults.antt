@@ -21,7 +21,8 @@ use Rattle.za_lang.specs.Gathering.{IsWrong}
 use Rattle.za_lang.specs.Tests.{step_fault}
 
 -- a run of a letter of the process, where there is room, has no fault
-pub step_right : (letters : List NamedLetter) (p read a count : ℕ) → has (members (procs_at letters a)) p ≡ true → nat_lt most_script_letters (read + count) ≡ false →
+pub step_right : (letters : List NamedLetter) (p read a count : ℕ) → has (members (procs_at letters a)) p ≡ true →
+    nat_lt most_script_letters (read + count) ≡ false →
     step_fault letters p read (Some a) (Some count) ≡ None
 step_right letters p read a count own room = rw (own, room) refl
 
@@ -34,7 +35,8 @@ pub step_some : (letters : List NamedLetter) (p read a : ℕ) → step_fault let
 step_some letters p read a h = some_of_cond (not (has (members (procs_at letters a)) p)) NotOfProcess BadRepeat h
 
 -- a right run has as many letters as it says
-pub step_size : (letters : List NamedLetter) (p read : ℕ) (o count : Option ℕ) → step_fault letters p read o count ≡ None → length (run_of o count) ≡ unwrap_or count 0
+pub step_size : (letters : List NamedLetter) (p read : ℕ) (o count : Option ℕ) → step_fault letters p read o count ≡ None →
+    length (run_of o count) ≡ unwrap_or count 0
 step_size letters p read None count h = absurd (let t : true ≡ false = ap is_some h in cc)
 step_size letters p read (Some a) None h = absurd (step_some letters p read a h)
 step_size letters p read (Some a) (Some count) h = length-replicate count a
@@ -56,7 +58,8 @@ wrong_run alphabet scripts p a count e is =
     (by_tests (has (loc_of alphabet a.0) p) (nat_lt most_script_letters (total_of scripts + count)))
   where
     by_tests : (own full : Bool) →
-        IsWrong (cond (not own) (Some NotOfProcess) (cond full (Some ScriptsFull) None)) (refusal_of_step (unwrap_or (cond (not own) (Some (Foreign p a)) (cond full (Some Full) None)) OutOfMemory))
+        IsWrong (cond (not own) (Some NotOfProcess) (cond full (Some ScriptsFull) None))
+        (refusal_of_step (unwrap_or (cond (not own) (Some (Foreign p a)) (cond full (Some Full) None)) OutOfMemory))
     by_tests false full = refl
     by_tests true true = refl
     by_tests true false = tt

@@ -60,7 +60,8 @@ joined_other p q (a ∷ found) e = rw e (joined_other p q found e)
 -- a script line
 pub script_told : (job : JobData) (new : List (List ℕ)) (s : Said) (word : List ℕ) (words : List (List ℕ)) (p : ℕ) → Tells job s → p < length job.scripts →
     process_at s.naming word ≡ Some p →
-    AreAdded job.lang.alphabet job.scripts new p (letters_of_items s.naming.version s.letters words) → Tells (record job { scripts = new }) (more_said s head.Script (word ∷ words))
+    AreAdded job.lang.alphabet job.scripts new p (letters_of_items s.naming.version s.letters words) →
+    Tells (record job { scripts = new }) (more_said s head.Script (word ∷ words))
 script_told job new s word words p h inside e added =
     let found = letters_of_items s.naming.version s.letters words in
     let more = steps_at p found in
@@ -85,8 +86,10 @@ script_told job new s word words p h inside e added =
             | inr other ↦
                 let no : (p == q) ≡ false = grind (arith, nat_tests) in
                 added_other job.lang.alphabet job.scripts new p q found other added ∙ h.steps q k
-                ∙ sym (joined_append s.steps more q ∙ ap (λ xs. script_of_steps s.steps q ++ xs) (joined_other p q found no) ∙ append-nil (script_of_steps s.steps q))
+                ∙ sym (joined_append s.steps more q ∙ ap (λ xs. script_of_steps s.steps q ++ xs) (joined_other p q found no)
+                ∙ append-nil (script_of_steps s.steps q))
           ];
-      total = let a = added.total in let b = h.total in let c : length more ≡ length found = length-map found (λ (a : ℕ). record { process = p; letter = a }) in let d = length-append s.steps more in omega arith;
+      total = let a = added.total in let b = h.total in let c : length more ≡ length found = length-map found (λ (a : ℕ). record { process = p; letter = a }) in
+          let d = length-append s.steps more in omega arith;
     } in
     subst (Tells put) same own

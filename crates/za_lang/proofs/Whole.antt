@@ -12,7 +12,8 @@ use Rattle.za_lang.specs.Documents.{Said, lang_said, scripts_said, job_said, scr
 use Rattle.za_lang.specs.Gathering.{Tells}
 
 targets_told : (job : JobData) (s : Said) → Tells job s → job.lang.targets ≡ (lang_said s).targets
-targets_told job s h = h.rows.cells ∙ ap (λ m. cells_of m (length job.lang.alphabet.letters) s.rows) h.states ∙ ap (λ (ls : List NamedLetter). cells_of s.states (length ls) s.rows) h.letters
+targets_told job s h = h.rows.cells ∙ ap (λ m. cells_of m (length job.lang.alphabet.letters) s.rows) h.states
+    ∙ ap (λ (ls : List NamedLetter). cells_of s.states (length ls) s.rows) h.letters
 
 scripts_told : (job : JobData) (s : Said) → IsJob job → Tells job s → job.scripts ≡ scripts_said s
 scripts_told job s whole h =
@@ -24,9 +25,11 @@ scripts_told job s whole h =
 pub told_whole : (job : JobData) (s : Said) → IsJob job → Tells job s → job ≡ job_said s
 told_whole job s whole h =
     let alphabet_of : ℕ → List NamedLetter → DistributedAlphabet = λ n ls. record { processes = n; letters = ls } in
-    let lang_of : DistributedAlphabet → ℕ → ℕ → List Bool → List (Option ℕ) → PartialDfa = λ a n q bs ts. record { alphabet = a; states = n; start = q; accepting = bs; targets = ts } in
+    let lang_of : DistributedAlphabet → ℕ → ℕ → List Bool → List (Option ℕ) → PartialDfa =
+    λ a n q bs ts. record { alphabet = a; states = n; start = q; accepting = bs; targets = ts } in
     let of : Naming → PartialDfa → List (List ℕ) → JobData = λ m l ss. record { naming = m; lang = l; scripts = ss } in
-    let alphabet : job.lang.alphabet ≡ alphabet_of (length s.naming.names) s.letters = ap (λ n. alphabet_of n job.lang.alphabet.letters) h.processes ∙ ap (alphabet_of (length s.naming.names)) h.letters in
+    let alphabet : job.lang.alphabet ≡ alphabet_of (length s.naming.names) s.letters = ap (λ n. alphabet_of n job.lang.alphabet.letters) h.processes
+    ∙ ap (alphabet_of (length s.naming.names)) h.letters in
     let targets = targets_told job s h in
     let scripts = scripts_told job s whole h in
     let states = h.states in

@@ -1,5 +1,6 @@
 -- Numbers tell which entries are shared.
-use Rattle.std.proofs.Common.{◌≡◌, ℕ, Bool, true, false, not, ◌&&◌, ◌==◌, inl, inr, List, length, map, Option, Some, None, option_and_then, sym, ap, ◌∙◌, arith, eqb-true, eq-eqb, ne_eqb}
+use Rattle.std.proofs.Common.{◌≡◌, ℕ, Bool, true, false, not, ◌&&◌, ◌==◌, inl, inr, List, length, map, Option, Some, None, option_and_then, sym, ap, ◌∙◌, arith}
+use Rattle.std.proofs.Common.{eqb-true, eq-eqb, ne_eqb}
 use Rattle.std.specs.List.{range_with_len, list_any}
 use Rattle.std.specs.Option.{option_map_or}
 use Rattle.std.proofs.lemmas.Bool.{and_left, not_from_false}
@@ -69,7 +70,8 @@ module _ (loc : ℕ → List ℕ) (letters n : ℕ) (w : List ℕ) (alphabet : I
   no-number o b none = and_left (not (number loc n w o == 0)) b (ap (λ o. not (number loc n w o == 0)) none)
 
   -- what by numbers is shared is shared
-  pub shared : (o : Option ℕ) (b : Bool) (test : ℕ → Bool) → ((e : ℕ) → o ≡ Some e → b ≡ test e) → (not (number loc n w o == 0) && b) ≡ option_map_or test o false
+  pub shared : (o : Option ℕ) (b : Bool) (test : ℕ → Bool) → ((e : ℕ) → o ≡ Some e → b ≡ test e) →
+      (not (number loc n w o == 0) && b) ≡ option_map_or test o false
   shared o b test h = elim (option-cases o) [
     | inl none ↦ no-number o b none ∙ sym (ap (λ o. option_map_or test o false) none)
     | inr one ↦ ap (λ c. c && b) (some-number o one.0 one.1) ∙ h one.0 one.1 ∙ sym (ap (λ o. option_map_or test o false) one.1)

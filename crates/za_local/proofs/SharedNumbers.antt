@@ -75,7 +75,8 @@ module _ (alphabet : DistributedAlphabet) (whole : IsDistributed alphabet) (w : 
             let out : nat_lt s (length row) ≡ false = grind (arith, nat_tests) in
             and_left (nat_lt s (length row) && not (slice_index row s == 0)) (has other (slice_index row s))
             (and_left (nat_lt s (length row)) (not (slice_index row s == 0)) out)
-            ∙ sym (no-number loc (length alphabet.letters) n w whole.located word (primary who (length w) x s) (has other ((known x).primary s)) (none-beyond x s ge))
+            ∙ sym (no-number loc (length alphabet.letters) n w whole.located word (primary who (length w) x s) (has other ((known x).primary s))
+            (none-beyond x s ge))
       ]
 
   -- with the primary row of y

@@ -33,7 +33,8 @@ over_has_the_answer m d c ok same closed r o =
     ))
 
 pub weaving_goes_on_from_states : WeavingGoesOnFromStates
-weaving_goes_on_from_states m c ok r = weaving_goes_on m.loc m.letters m.processes m.scripts (total m.scripts m.processes) c.journal ok.alphabet (reached-sound m c r).fits (omega arith)
+weaving_goes_on_from_states m c ok r =
+    weaving_goes_on m.loc m.letters m.processes m.scripts (total m.scripts m.processes) c.journal ok.alphabet (reached-sound m c r).fits (omega arith)
 
 pub rests_weave_the_same : RestsWeaveTheSame
 rests_weave_the_same m c ok r = rest_is_one_trace m.loc m.letters m.processes m.scripts c.journal ok.alphabet (reached-sound m c r).fits

@@ -1,5 +1,6 @@
 -- Who has which letter in hand, from move to move.
-use Rattle.std.proofs.Common.{◌≡◌, ◌≢◌, ℕ, zero, suc, ◌<◌, List, replicate, Option, Some, None, refl, sym, ap, subst, ◌∙◌, inl, inr, arith, slice_set, length-set, get_or-set_other, get_or-set_same}
+use Rattle.std.proofs.Common.{◌≡◌, ◌≢◌, ℕ, zero, suc, ◌<◌, List, replicate, Option, Some, None, refl, sym, ap, subst, ◌∙◌, inl, inr, arith, slice_set}
+use Rattle.std.proofs.Common.{length-set, get_or-set_other, get_or-set_same}
 use Rattle.std.proofs.lemmas.Bool.{cases_eq}
 use Rattle.std.proofs.lemmas.List.{length-replicate}
 use Rattle.za_machine.specs.Machine.{Machine, IsMachine, State, Event, Arrive, Fire, End, after_event, fire, IsAllowed, IsMachineState}
@@ -62,7 +63,8 @@ module _ (m : Machine) (c : State) (hands : List (Option ℕ)) (ok : IsMachine m
   lets_go d b q s keep = record {
     size = length-set hands b None ∙ h.size;
     each = λ a p t. elim (cases_eq a b) [
-      | inl e ↦ absurd (nobody (hand (slice_set hands b None) b) p (set-own b None (h.each b q s).letter) (subst (λ x. hand (slice_set hands b None) x ≡ Some p) e t))
+      | inl e ↦ absurd (nobody (hand (slice_set hands b None) b) p (set-own b None (h.each b q s).letter)
+          (subst (λ x. hand (slice_set hands b None) x ≡ Some p) e t))
       | inr n ↦ keep a p n (h.each a p (set-other b None a p n t))
     ];
   }

@@ -1,5 +1,7 @@
 -- The laws of the core machine.
-use Rattle.std.proofs.Common.{◌≡◌, ◌≢◌, ℕ, zero, suc, ◌+◌, ◌*◌, ◌<◌, ◌≤◌, ◌⊎◌, ◌||◌, ◌&&◌, ◌↔◌, not, Bool, true, false, inl, inr, List, [], ◌∷◌, ◌++◌, length, replicate, refl, sym, ap, subst, ◌∙◌, arith, cond, None, ltb-true, eqb-true, length-append, length-set, append-nil, get_or-set_other, get_or-set_same, nat_lt, ◌==◌, slice_index, slice_set}
+use Rattle.std.proofs.Common.{◌≡◌, ◌≢◌, ℕ, zero, suc, ◌+◌, ◌*◌, ◌<◌, ◌≤◌, ◌⊎◌, ◌||◌, ◌&&◌, ◌↔◌, not, Bool, true, false, inl, inr, List, [], ◌∷◌, ◌++◌, length}
+use Rattle.std.proofs.Common.{replicate, refl, sym, ap, subst, ◌∙◌, arith, cond, None, ltb-true, eqb-true, length-append, length-set, append-nil}
+use Rattle.std.proofs.Common.{get_or-set_other, get_or-set_same, nat_lt, ◌==◌, slice_index, slice_set}
 use Rattle.std.specs.List.{list_all}
 use Rattle.std.proofs.lemmas.Bool.{cases_Bool, cases_lt, cases_eq, and_parts, and_from, or_cases}
 use Rattle.std.proofs.lemmas.Option.{slice_get_past, slice_get-get_or}
@@ -12,7 +14,8 @@ use Rattle.za_alpha.proofs.Swaps.{seen-take, seen-skip}
 use Rattle.za_script.proofs.Lists.{all-at, all-from, all-fails, same_front}
 use Rattle.za_alpha.proofs.Least.{least-true, least-below}
 use Rattle.za_script.proofs.Confluence.{fits-more, fits-length, empty-fits, maximal-one}
-use Rattle.za_machine.specs.Machine.{Machine, IsMachine, State, is_in, fired_by, next, is_complete, IsOver, initial, without, Event, Arrive, Fire, End, arrive, fire, end_at, after_event, IsAllowed, run, AreAllowed, IsMachineState}
+use Rattle.za_machine.specs.Machine.{Machine, IsMachine, State, is_in, fired_by, next, is_complete, IsOver, initial, without, Event, Arrive, Fire, End, arrive}
+use Rattle.za_machine.specs.Machine.{fire, end_at, after_event, IsAllowed, run, AreAllowed, IsMachineState}
 use Rattle.za_machine.specs.Private.Standing.{IsSound, sum_to, share, events_of}
 
 false_true : false ≡ true → ⊥
@@ -36,7 +39,8 @@ and_true false = refl
 at-without_from : (ps : List ℕ) (k : ℕ) (bs : List Bool) (p : ℕ) → is_in (without ps k bs) p ≡ (is_in bs p && not (has ps (k + p)))
 at-without_from ps k [] p = refl
 at-without_from ps k (b ∷ bs) zero = let e : k ≡ k + 0 = omega arith in ap (λ (i : ℕ). b && not (has ps i)) e
-at-without_from ps k (b ∷ bs) (suc p) = let e : suc k + p ≡ k + suc p = omega arith in at-without_from ps (suc k) bs p ∙ ap (λ (i : ℕ). is_in bs p && not (has ps i)) e
+at-without_from ps k (b ∷ bs) (suc p) = let e : suc k + p ≡ k + suc p = omega arith in at-without_from ps (suc k) bs p
+    ∙ ap (λ (i : ℕ). is_in bs p && not (has ps i)) e
 
 pub at-without : (ps : List ℕ) (bs : List Bool) (p : ℕ) → is_in (without ps 0 bs) p ≡ (is_in bs p && not (has ps p))
 at-without ps bs p = let z : 0 + p ≡ p = omega arith in at-without_from ps 0 bs p ∙ ap (λ (i : ℕ). is_in bs p && not (has ps i)) z
@@ -110,7 +114,8 @@ module _ (j : Machine) where
 
   -- what a complete letter says of its processes
   pub complete-here : (c : State) (a p : ℕ) → is_complete j c a ≡ true → has (j.loc a) p ≡ true → is_in c.arrived p ≡ true
-  complete-here c a p h t = (and_parts (is_in c.arrived p) (comes_next (j.scripts p) (fired_by j c.journal p) a) (all-at (λ q. is_in c.arrived q && comes_next (j.scripts q) (fired_by j c.journal q) a) (j.loc a) p h t)).0
+  complete-here c a p h t = (and_parts (is_in c.arrived p) (comes_next (j.scripts p) (fired_by j c.journal p) a)
+      (all-at (λ q. is_in c.arrived q && comes_next (j.scripts q) (fired_by j c.journal q) a) (j.loc a) p h t)).0
 
   pub complete-enabled : (c : State) (a : ℕ) → is_complete j c a ≡ true → is_enabled j.loc j.scripts c.journal a ≡ true
   complete-enabled c a h = all-second (is_in c.arrived) (λ p. comes_next (j.scripts p) (fired_by j c.journal p) a) (j.loc a) h
@@ -175,7 +180,8 @@ module _ (j : Machine) where
   reached-sound c r = subst (IsSound j) r.there (run-sound (initial j) r.events initial-sound r.allowed)
 
   -- each event counts once
-  one_more : (c d : State) (p : ℕ) → p < j.processes → d.journal ≡ c.journal → share j d p ≡ share j c p + 1 → ((q : ℕ) → q ≢ p → share j d q ≡ share j c q) → events_of j d ≡ events_of j c + 1
+  one_more : (c d : State) (p : ℕ) → p < j.processes → d.journal ≡ c.journal → share j d p ≡ share j c p + 1 → ((q : ℕ) → q ≢ p → share j d q ≡ share j c q) →
+      events_of j d ≡ events_of j c + 1
   one_more c d p l e own other = let s = sum-more (share j c) (share j d) j.processes p l own other in let k = ap length e in omega arith
 
   pub after-events : (c : State) (e : Event) → IsSound j c → IsAllowed j c e → events_of j (after_event j c e) ≡ events_of j c + 1
@@ -203,7 +209,8 @@ module _ (j : Machine) where
             let w = ap (λ b. cond {A = ℕ} b 1 0) off in omega arith
         | inr other ↦
             let x = ap length (fired_by-other c.journal a q other) in
-            let on : is_in (without (j.loc a) 0 c.arrived) q ≡ is_in c.arrived q = away ∙ ap (λ b. is_in c.arrived q && not b) other ∙ and_true (is_in c.arrived q) in
+            let on : is_in (without (j.loc a) 0 c.arrived) q ≡ is_in c.arrived q = away ∙ ap (λ b. is_in c.arrived q && not b) other
+            ∙ and_true (is_in c.arrived q) in
             let w = ap (λ b. cond {A = ℕ} b 1 0) on in omega arith
       ]) in omega arith
 
@@ -245,7 +252,8 @@ module _ (j : Machine) where
           let w = all-fails (λ p. is_in c.arrived p && comes_next (j.scripts p) (fired_by j c.journal p) a) (j.loc a) (o.quiet a la) in
           let p = w.0 in
           let n = all-at (λ q. comes_next (j.scripts q) (fired_by j c.journal q) a) (j.loc a) p on w.1 in
-          let l = ltb-true (fired_by j c.journal p) (length (j.scripts p)) (and_parts (nat_lt (fired_by j c.journal p) (length (j.scripts p))) (slice_index (j.scripts p) (fired_by j c.journal p) == a) n).0 in
+          let l = ltb-true (fired_by j c.journal p) (length (j.scripts p))
+          (and_parts (nat_lt (fired_by j c.journal p) (length (j.scripts p))) (slice_index (j.scripts p) (fired_by j c.journal p) == a) n).0 in
           elim (or_cases (is_in c.arrived p) (is_in c.ended p) (o.each p (ok.alphabet.below a p la w.1))) [
             | inl here ↦ let k = and_from (is_in c.arrived p) (comes_next (j.scripts p) (fired_by j c.journal p) a) here n in false_true (sym w.2 ∙ k)
             | inr gone ↦ let e = ap length (s.done p gone) in omega arith
@@ -266,14 +274,16 @@ module _ (j : Machine) where
     ];
   }
 
-  pub weaves-ended : (c : State) → IsMachine j → IsSound j c → IsOver j c → Weaves j.loc j.letters j.scripts c.journal → (p : ℕ) → p < j.processes → is_in c.ended p ≡ true
+  pub weaves-ended : (c : State) → IsMachine j → IsSound j c → IsOver j c → Weaves j.loc j.letters j.scripts c.journal → (p : ℕ) → p < j.processes →
+      is_in c.ended p ≡ true
   weaves-ended c ok s o w p l = elim (or_cases (is_in c.arrived p) (is_in c.ended p) (o.each p l)) [
     | inl here ↦ absurd (let a = s.waits p here in let e = ap length (w.whole p) in omega arith)
     | inr gone ↦ gone
   ]
 
   -- a state allows an event, or is over
-  each_or : (c : State) (n : ℕ) → ((p : ℕ) × (p < n) × ((is_in c.arrived p || is_in c.ended p) ≡ false)) ⊎ ((p : ℕ) → p < n → (is_in c.arrived p || is_in c.ended p) ≡ true)
+  each_or : (c : State) (n : ℕ) → ((p : ℕ) × (p < n) × ((is_in c.arrived p || is_in c.ended p) ≡ false))
+      ⊎ ((p : ℕ) → p < n → (is_in c.arrived p || is_in c.ended p) ≡ true)
   each_or c zero = inr (λ p l. absurd (omega arith))
   each_or c (suc n) = elim (each_or c n) [
     | inl f ↦ inl (f.0, (let l = f.1 in omega arith), f.2)
@@ -320,7 +330,8 @@ over_allows_none j c (End p) r o h = elim (or_cases (is_in c.arrived p) (is_in c
 ]
 
 -- one more allowed event
-run_snoc : (j : Machine) (c : State) (es : List Event) (e : Event) → AreAllowed j c es → IsAllowed j (run j c es) e → AreAllowed j c (es ++ e ∷ []) × (run j c (es ++ e ∷ []) ≡ after_event j (run j c es) e)
+run_snoc : (j : Machine) (c : State) (es : List Event) (e : Event) → AreAllowed j c es → IsAllowed j (run j c es) e → AreAllowed j c (es ++ e ∷ [])
+    × (run j c (es ++ e ∷ []) ≡ after_event j (run j c es) e)
 run_snoc j c [] e h k = ((k, tt), refl)
 run_snoc j c (d ∷ es) e h k = let r = run_snoc j (after_event j c d) es e h.1 k in ((h.0, r.0), r.1)
 
@@ -342,10 +353,12 @@ reached_apart j c p r = not_both j c (reached-sound j c r) p
 pub reached_maximal : (j : Machine) (c : State) → IsMachine j → IsMachineState j c → IsOver j c → FitsMaximally j.loc j.letters j.scripts c.journal
 reached_maximal j c ok r o = over-maximal j c ok (reached-sound j c r) o
 
-pub reached_weave : (j : Machine) (c : State) → IsMachine j → IsMachineState j c → IsOver j c → AreEquivalent j.loc c.journal (weave j.loc j.letters j.processes j.scripts)
+pub reached_weave : (j : Machine) (c : State) → IsMachine j → IsMachineState j c → IsOver j c →
+    AreEquivalent j.loc c.journal (weave j.loc j.letters j.processes j.scripts)
 reached_weave j c ok r o = over-weave j c ok (reached-sound j c r) o
 
-pub reached_weaves : (j : Machine) (c : State) → IsMachine j → IsMachineState j c → IsOver j c → (Weaves j.loc j.letters j.scripts c.journal ↔ ((p : ℕ) → p < j.processes → is_in c.ended p ≡ true))
+pub reached_weaves : (j : Machine) (c : State) → IsMachine j → IsMachineState j c → IsOver j c →
+    (Weaves j.loc j.letters j.scripts c.journal ↔ ((p : ℕ) → p < j.processes → is_in c.ended p ≡ true))
 reached_weaves j c ok r o = (weaves-ended j c ok (reached-sound j c r) o, ended-weaves j c ok (reached-sound j c r))
 
 pub reached_ended : (j : Machine) (c : State) (p : ℕ) → IsMachineState j c → is_in c.ended p ≡ true → projection j.loc p c.journal ≡ j.scripts p
@@ -360,10 +373,12 @@ module _ (j : Machine) (c : State) (ok : IsMachine j) (s : IsSound j c) (a : ℕ
   test d p = is_in d.arrived p && comes_next (j.scripts p) (fired_by j d.journal p) a
 
   whose : (p : ℕ) → has (j.loc a) p ≡ true → (is_in c.arrived p ≡ true) × (comes_next (j.scripts p) (fired_by j c.journal p) a ≡ true)
-  whose p m = and_parts (is_in c.arrived p) (comes_next (j.scripts p) (fired_by j c.journal p) a) (all-at (λ q. is_in c.arrived q && comes_next (j.scripts q) (fired_by j c.journal q) a) (j.loc a) p full m)
+  whose p m = and_parts (is_in c.arrived p) (comes_next (j.scripts p) (fired_by j c.journal p) a)
+      (all-at (λ q. is_in c.arrived q && comes_next (j.scripts q) (fired_by j c.journal q) a) (j.loc a) p full m)
 
   next-is : (p b : ℕ) → comes_next (j.scripts p) (fired_by j c.journal p) b ≡ true → slice_index (j.scripts p) (fired_by j c.journal p) ≡ b
-  next-is p b h = eqb-true (slice_index (j.scripts p) (fired_by j c.journal p)) b (and_parts (nat_lt (fired_by j c.journal p) (length (j.scripts p))) (slice_index (j.scripts p) (fired_by j c.journal p) == b) h).1
+  next-is p b h = eqb-true (slice_index (j.scripts p) (fired_by j c.journal p)) b
+      (and_parts (nat_lt (fired_by j c.journal p) (length (j.scripts p))) (slice_index (j.scripts p) (fired_by j c.journal p) == b) h).1
 
   pub stays-complete : (e : Event) → IsAllowed j c e → (e ≡ Fire a → ⊥) → is_complete j (after_event j c e) a ≡ true
   stays-complete (Arrive q) h n = all-from (λ p. is_in (slice_set c.arrived q true) p && comes_next (j.scripts p) (fired_by j c.journal p) a) (j.loc a) (λ p m.
@@ -374,14 +389,17 @@ module _ (j : Machine) (c : State) (ok : IsMachine j) (s : IsSound j c) (a : ℕ
         | inr ne ↦ get_or-set_other c.arrived q p true false ne ∙ w.0
       ]) w.1)
   stays-complete (End q) h n = full
-  stays-complete (Fire b) h n = all-from (λ p. is_in (without (j.loc b) 0 c.arrived) p && comes_next (j.scripts p) (fired_by j (c.journal ++ b ∷ []) p) a) (j.loc a) (λ p m.
+  stays-complete (Fire b) h n = all-from (λ p. is_in (without (j.loc b) 0 c.arrived) p && comes_next (j.scripts p) (fired_by j (c.journal ++ b ∷ []) p) a)
+      (j.loc a) (λ p m.
       let w = whose p m in
       elim (cases_Bool (has (j.loc b) p)) [
         | inl both ↦ absurd (
-            let k = and_parts (is_in c.arrived p) (comes_next (j.scripts p) (fired_by j c.journal p) b) (all-at (λ q. is_in c.arrived q && comes_next (j.scripts q) (fired_by j c.journal q) b) (j.loc b) p h.1 both) in
+            let k = and_parts (is_in c.arrived p) (comes_next (j.scripts p) (fired_by j c.journal p) b)
+            (all-at (λ q. is_in c.arrived q && comes_next (j.scripts q) (fired_by j c.journal q) b) (j.loc b) p h.1 both) in
             n (ap Fire (sym (next-is p b k.1) ∙ next-is p a w.1)))
         | inr off ↦
-            let away : is_in (without (j.loc b) 0 c.arrived) p ≡ true = at-without (j.loc b) c.arrived p ∙ ap (λ x. is_in c.arrived p && not x) off ∙ and_true (is_in c.arrived p) ∙ w.0 in
+            let away : is_in (without (j.loc b) 0 c.arrived) p ≡ true = at-without (j.loc b) c.arrived p ∙ ap (λ x. is_in c.arrived p && not x) off
+            ∙ and_true (is_in c.arrived p) ∙ w.0 in
             let same = ap length (fired_by-other j c.journal b p off) in
             and_from (is_in (without (j.loc b) 0 c.arrived) p) (comes_next (j.scripts p) (fired_by j (c.journal ++ b ∷ []) p) a) away
             (ap (λ (i : ℕ). comes_next (j.scripts p) i a) same ∙ w.1)
@@ -391,5 +409,6 @@ module _ (j : Machine) (c : State) (ok : IsMachine j) (s : IsSound j c) (a : ℕ
 pub complete-not_over : (j : Machine) (c : State) (a : ℕ) → a < j.letters → is_complete j c a ≡ true → IsOver j c → ⊥
 complete-not_over j c a l h o = false_true (sym (o.quiet a l) ∙ h)
 
-pub complete_stays : (j : Machine) (c : State) (a : ℕ) (e : Event) → IsMachine j → IsMachineState j c → a < j.letters → is_complete j c a ≡ true → IsAllowed j c e → (e ≡ Fire a → ⊥) → is_complete j (after_event j c e) a ≡ true
+pub complete_stays : (j : Machine) (c : State) (a : ℕ) (e : Event) → IsMachine j → IsMachineState j c → a < j.letters → is_complete j c a ≡ true →
+    IsAllowed j c e → (e ≡ Fire a → ⊥) → is_complete j (after_event j c e) a ≡ true
 complete_stays j c a e ok r l full h n = stays-complete j c ok (reached-sound j c r) a l full e h n

@@ -22,15 +22,18 @@ module _ (dfa : CompleteDfa) (rows : List (List ℕ)) (r : AreRoundsOf dfa rows)
   row-at k q x c l is e = e ∙ ap (λ xs. slice_index xs q) (row-read k c l is)
 
   -- states that no row tells apart are alike
-  pub never-apart : (p q : ℕ) → p < dfa.states → q < dfa.states → ((k : ℕ) → k < length rows → slice_index (rounds (automaton_of dfa) k) p ≡ slice_index (rounds (automaton_of dfa) k) q) → AreAlike (automaton_of dfa) p q
+  pub never-apart : (p q : ℕ) → p < dfa.states → q < dfa.states →
+      ((k : ℕ) → k < length rows → slice_index (rounds (automaton_of dfa) k) p ≡ slice_index (rounds (automaton_of dfa) k) q) → AreAlike (automaton_of dfa) p q
   never-apart p q pl ql h =
       let long = rows-long (automaton_of dfa) rows r.rounds in
       (stable_classes (automaton_of dfa) r.rounds.last p q (total_of_complete dfa r.whole) pl ql r.rounds.stable).0 (h r.rounds.last (omega arith))
 
 -- the next letter is one
-pub letter-found : (d : Automaton) → IsTotal d → (n m q r a : ℕ) (c : List ℕ) → suc m ≡ n → IsSplit d n q r → c ≡ rounds d m → a ≡ least (splits d c q r) d.letters → a < d.letters
+pub letter-found : (d : Automaton) → IsTotal d → (n m q r a : ℕ) (c : List ℕ) → suc m ≡ n → IsSplit d n q r → c ≡ rounds d m →
+    a ≡ least (splits d c q r) d.letters → a < d.letters
 letter-found d total n m q r a c e s is ae =
-    subst (λ x. x < d.letters) (sym (ae ∙ ap (λ xs. least (splits d xs q r) d.letters) is)) (split-next d total m q r (subst (λ i. IsSplit d i q r) (sym e) s)).0
+    subst (λ x. x < d.letters) (sym (ae ∙ ap (λ xs. least (splits d xs q r) d.letters) is))
+    (split-next d total m q r (subst (λ i. IsSplit d i q r) (sym e) s)).0
 
 -- one letter more
 pub record IsLetterMore (d : Automaton) (n left right a : ℕ) (w rest : List ℕ) : Type 0 where
@@ -38,7 +41,8 @@ pub record IsLetterMore (d : Automaton) (n left right a : ℕ) (w rest : List �
   pub split : IsSplit d n left right
   pub word : w ++ split_word d n left right ≡ rest
 
-pub letter-more : (d : Automaton) → IsTotal d → (n m q r a left right : ℕ) (w w' rest : List ℕ) → suc m ≡ n → IsSplit d n q r → a ≡ least (splits d (rounds d m) q r) d.letters → left ≡ d.step q a → right ≡ d.step r a →
+pub letter-more : (d : Automaton) → IsTotal d → (n m q r a left right : ℕ) (w w' rest : List ℕ) → suc m ≡ n → IsSplit d n q r →
+    a ≡ least (splits d (rounds d m) q r) d.letters → left ≡ d.step q a → right ≡ d.step r a →
     w' ≡ w ++ a ∷ [] → w ++ split_word d n q r ≡ rest → IsLetterMore d m left right a w' rest
 letter-more d total n m q r a left right w w' rest e s ae le re we h =
     let b = least (splits d (rounds d m) q r) d.letters in

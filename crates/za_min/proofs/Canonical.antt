@@ -1,5 +1,6 @@
 -- Two minimal DFAs of one language, both numbered by their access words, are equal.
-use Rattle.std.proofs.Common.{◌≡◌, ℕ, zero, suc, ◌+◌, ◌*◌, ◌/◌, ◌%◌, ◌<◌, ◌≤◌, Bool, true, false, ◌&&◌, cond, inl, inr, List, [], ◌∷◌, ◌++◌, length, get_or, refl, sym, ap, subst, ◌∙◌, arith}
+use Rattle.std.proofs.Common.{◌≡◌, ℕ, zero, suc, ◌+◌, ◌*◌, ◌/◌, ◌%◌, ◌<◌, ◌≤◌, Bool, true, false, ◌&&◌, cond, inl, inr, List, [], ◌∷◌, ◌++◌, length, get_or}
+use Rattle.std.proofs.Common.{refl, sym, ap, subst, ◌∙◌, arith}
 use Rattle.std.specs.Prelude.{nat_lt}
 use Rattle.std.proofs.lemmas.Bool.{cases_eq, cases_lt}
 use Rattle.std.proofs.lemmas.Bool.Decides.{nat_tests}
@@ -43,10 +44,15 @@ record IsTwin (d e : Automaton) (q r : ℕ) : Type 0 where
   back : (w : List ℕ) → IsWord d.letters w → walk e.step e.start w ≡ r → walk d.step d.start w ≡ q
 
 twin-turned : (d e : Automaton) (q r : ℕ) → AreSame d e → IsTwin d e q r → IsTwin e d r q
-twin-turned d e q r s t = record { there = λ w h. t.back w (subst (λ n. IsWord n w) (sym s.letters) h); back = λ w h. t.there w (subst (λ n. IsWord n w) (sym s.letters) h) }
+twin-turned d e q r s t = record {
+  there = λ w h. t.back w (subst (λ n. IsWord n w) (sym s.letters) h);
+  back =
+      λ w h. t.there w (subst (λ n. IsWord n w) (sym s.letters) h);
+}
 
 -- words that lead to one state in d lead to one in e
-meet : (d e : Automaton) (ws : List (List ℕ)) → IsCanonical e ws → AreSame d e → (u v : List ℕ) → IsWord d.letters u → IsWord d.letters v → walk d.step d.start u ≡ walk d.step d.start v → walk e.step e.start u ≡ walk e.step e.start v
+meet : (d e : Automaton) (ws : List (List ℕ)) → IsCanonical e ws → AreSame d e → (u v : List ℕ) → IsWord d.letters u → IsWord d.letters v →
+    walk d.step d.start u ≡ walk d.step d.start v → walk e.step e.start u ≡ walk e.step e.start v
 meet d e ws ce s u v hu hv x =
     let eu : IsWord e.letters u = subst (λ n. IsWord n u) s.letters hu in
     let ev : IsWord e.letters v = subst (λ n. IsWord n v) s.letters hv in
@@ -83,7 +89,8 @@ module _ (d e : Automaton) (vs ws : List (List ℕ)) (cd : IsCanonical d vs) (ce
       let lu = cd.numbered.access q ql in
       let mine : IsLeastWord (LeadsTo e r) (word_at vs q) = record {
         holds = record { word = subst (λ n. IsWord n (word_at vs q)) s.letters lu.holds.word; there = t.there (word_at vs q) lu.holds.word lu.holds.there };
-        least = λ x p. let hx : IsWord d.letters x = subst (λ n. IsWord n x) (sym s.letters) p.word in lu.least x (record { word = hx; there = t.back x hx p.there });
+        least = λ x p. let hx : IsWord d.letters x = subst (λ n. IsWord n x) (sym s.letters) p.word in
+            lu.least x (record { word = hx; there = t.back x hx p.there });
       } in
       least_word-unique (LeadsTo e r) (word_at ws r) (word_at vs q) (ce.numbered.access r rl) mine
 
@@ -102,7 +109,8 @@ module _ (d e : Automaton) (vs ws : List (List ℕ)) (cd : IsCanonical d vs) (ce
               let at' = t'.back (word_at vs q) lu.holds.word (t.there (word_at vs q) lu.holds.word at ∙ sym same) in omega arith
           | inr ne ↦
               let back = ce.numbered.rising r' r (omega arith) rl in
-              let back' : comes_before (word_at vs q') (word_at vs q) ≡ true = subst (λ x. comes_before x (word_at vs q) ≡ true) a' (subst (λ x. comes_before (word_at ws r') x ≡ true) a back) in
+              let back' : comes_before (word_at vs q') (word_at vs q) ≡ true =
+              subst (λ x. comes_before x (word_at vs q) ≡ true) a' (subst (λ x. comes_before (word_at ws r') x ≡ true) a back) in
               before-not-self (word_at vs q) (before-trans (word_at vs q) (word_at vs q') (word_at vs q) o back')
         ])
       ]
@@ -115,7 +123,8 @@ module _ (d e : Automaton) (vs ws : List (List ℕ)) (cd : IsCanonical d vs) (ce
       let o = twin-order q (suc q) f.0 r (omega arith) ql f.1 rl f.2 t in omega arith
 
 -- a state is its own twin
-twin-own : (d e : Automaton) (vs ws : List (List ℕ)) → IsCanonical d vs → IsCanonical e ws → AreSame d e → (q : ℕ) → q < d.states → (q < e.states) × IsTwin d e q q
+twin-own : (d e : Automaton) (vs ws : List (List ℕ)) → IsCanonical d vs → IsCanonical e ws → AreSame d e → (q : ℕ) → q < d.states → (q < e.states)
+    × IsTwin d e q q
 twin-own d e vs ws cd ce s q ql =
     let f = twin-found d e vs ws cd ce s q ql in
     let a = twin-le d e vs ws cd ce s q f.0 ql f.1 f.2 in
@@ -157,7 +166,8 @@ canonical-words d e vs ws cd ce s =
     let states = one.states in
     let each = cd.numbered.one_each in
     let each' = ce.numbered.one_each in
-    ext_get_or [] vs ws (omega arith) (λ k l. let kd : k < d.states = omega arith in let t = twin-own d e vs ws cd ce s k kd in sym (twin-access d e vs ws cd ce s k k kd t.0 t.1))
+    ext_get_or [] vs ws (omega arith) (λ k l. let kd : k < d.states = omega arith in let t = twin-own d e vs ws cd ce s k kd in
+    sym (twin-access d e vs ws cd ce s k k kd t.0 t.1))
 
 -- a step that is a target
 step-is-target : (d : CompleteDfa) (q a : ℕ) → q < d.states → a < length d.alphabet.letters → step_of d q a ≡ target_at d q a
@@ -174,7 +184,8 @@ tables-one d e hd he same one =
     let al = hd.accepting_length in
     let al' = he.accepting_length in
     let tl = hd.targets_length in
-    let tl' : length e.targets ≡ d.states * m = he.targets_length ∙ ap (λ n. n * length e.alphabet.letters) (sym states) ∙ ap (λ n. d.states * n) (sym letters) in
+    let tl' : length e.targets ≡ d.states * m = he.targets_length ∙ ap (λ n. n * length e.alphabet.letters) (sym states)
+    ∙ ap (λ n. d.states * n) (sym letters) in
     let accepting : d.accepting ≡ e.accepting = ext_get_or false d.accepting e.accepting (omega arith) (λ q l. one.accepts q (omega arith)) in
     let targets : d.targets ≡ e.targets =
     ext_get_or 0 d.targets e.targets (tl ∙ sym tl') (λ i l.

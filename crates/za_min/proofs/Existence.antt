@@ -1,5 +1,6 @@
 -- Each table has a minimal one: what the program finds in loops is found by recursion on a number.
-use Rattle.std.proofs.Common.{◌≡◌, ◌≢◌, ℕ, zero, suc, ◌+◌, ◌*◌, ◌/◌, ◌%◌, ◌<◌, ◌≤◌, ◌⊎◌, inl, inr, List, [], ◌∷◌, ◌++◌, length, map, refl, sym, ap, subst, ◌∙◌, arith, length-append}
+use Rattle.std.proofs.Common.{◌≡◌, ◌≢◌, ℕ, zero, suc, ◌+◌, ◌*◌, ◌/◌, ◌%◌, ◌<◌, ◌≤◌, ◌⊎◌, inl, inr, List, [], ◌∷◌, ◌++◌, length, map, refl, sym, ap, subst, ◌∙◌}
+use Rattle.std.proofs.Common.{arith, length-append}
 use Rattle.std.proofs.lemmas.Bool.{cases_eq, cases_lt}
 use Rattle.std.proofs.Math.Nat.{div-lt_iff_lt-mul}
 use Rattle.std.proofs.lemmas.Nat.{mod_below}
@@ -63,13 +64,15 @@ least_apart d total minimal q r ql rl ne =
 
 module _ (d : Automaton) (total : IsTotal d) where
   -- the letters of a place from a on are done one after another
-  row : (more a i : ℕ) (words : List (List ℕ)) → a + more ≡ d.letters → AreFound d i a words → i < length words → (all : List (List ℕ)) × AreFound d i d.letters all
+  row : (more a i : ℕ) (words : List (List ℕ)) → a + more ≡ d.letters → AreFound d i a words → i < length words → (all : List (List ℕ))
+      × AreFound d i d.letters all
   row zero a i words e s il = let same : a ≡ d.letters = omega arith in (words, subst (λ b. AreFound d i b words) same s)
   row (suc more) a i words e s il =
       let next : ℕ = d.step (state_of d (word_at words i)) a in
       let new : List ℕ = word_at words i ++ a ∷ [] in
       let long : length (words ++ new ∷ []) ≡ length words + 1 = length-append words (new ∷ []) in
-      elim (first_of (λ k. state_of d (word_at words k) ≡ next) (λ k. state_of d (word_at words k) ≢ next) (length words) (λ k. cases_eq (state_of d (word_at words k)) next)) [
+      elim (first_of (λ k. state_of d (word_at words k) ≡ next) (λ k. state_of d (word_at words k) ≢ next) (length words)
+      (λ k. cases_eq (state_of d (word_at words k)) next)) [
         | inl k ↦ row more (suc a) i words (omega arith) (stays d i a words s il (k.0, k.1, k.2)) il
         | inr none ↦ row more (suc a) i (words ++ new ∷ []) (omega arith) (grows d i a words s il (omega arith) none) (omega arith)
       ]
@@ -88,7 +91,8 @@ module _ (d : Automaton) (total : IsTotal d) where
   found_exist = places (suc d.states) 0 ([] ∷ []) (omega arith) (found-start d)
 
 -- the targets of the first n cells
-targets_exist : (d : Automaton) (words : List (List ℕ)) (states : List ℕ) → AreAllFound d words states → (n : ℕ) → n ≤ length words * d.letters → (targets : List ℕ) × AreTargets d words n targets
+targets_exist : (d : Automaton) (words : List (List ℕ)) (states : List ℕ) → AreAllFound d words states → (n : ℕ) → n ≤ length words * d.letters →
+    (targets : List ℕ) × AreTargets d words n targets
 targets_exist d words states f zero l = ([], record { many = refl; each = λ i k. absurd (omega arith) })
 targets_exist d words states f (suc n) l =
     let before = targets_exist d words states f n (omega arith) in

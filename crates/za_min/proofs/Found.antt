@@ -1,5 +1,6 @@
 -- Breadth first, each state is found by its shortlex-least word, in the order of these words.
-use Rattle.std.proofs.Common.{◌≡◌, ◌≢◌, ℕ, suc, ◌+◌, ◌<◌, ◌≤◌, true, false, ◌⊎◌, inl, inr, List, [], ◌∷◌, ◌++◌, length, map, get_or, refl, sym, ap, subst, ◌∙◌, arith, eqb, eqb-true, length-append, append_assoc, append-nil}
+use Rattle.std.proofs.Common.{◌≡◌, ◌≢◌, ℕ, suc, ◌+◌, ◌<◌, ◌≤◌, true, false, ◌⊎◌, inl, inr, List, [], ◌∷◌, ◌++◌, length, map, get_or, refl, sym, ap, subst, ◌∙◌}
+use Rattle.std.proofs.Common.{arith, eqb, eqb-true, length-append, append_assoc, append-nil}
 use Rattle.std.specs.List.{list_any, IsDistinct}
 use Rattle.std.proofs.lemmas.Bool.{cases_lt, cases_eq, ne_eqb, or_cases, false_from_ne_true}
 use Rattle.std.proofs.lemmas.List.{get_or_append_left, get_or-map, length-map}
@@ -40,13 +41,15 @@ apart-length f words n below apart =
 
 module _ (d : Automaton) where
   -- each word so far comes before the next
-  before-next : (i a : ℕ) (words : List (List ℕ)) → AreFound d i a words → i < length words → (k : ℕ) → k < length words → comes_before (word_at words k) (word_at words i ++ a ∷ []) ≡ true
+  before-next : (i a : ℕ) (words : List (List ℕ)) → AreFound d i a words → i < length words → (k : ℕ) → k < length words →
+      comes_before (word_at words k) (word_at words i ++ a ∷ []) ≡ true
   before-next i a words s il k kl =
       elim (s.origin k kl) [
         | inl e ↦ rw e (before-nil (word_at words i) a)
         | inr c ↦ rw c.is (elim c.done [
           | inl l ↦ before-more (word_at words c.from) (word_at words i) c.by a (s.rising c.from i l il)
-          | inr r ↦ subst (λ x. comes_before (word_at words x ++ c.by ∷ []) (word_at words i ++ a ∷ []) ≡ true) (sym r.0) (before-last (word_at words i) c.by a r.1)
+          | inr r ↦ subst (λ x. comes_before (word_at words x ++ c.by ∷ []) (word_at words i ++ a ∷ []) ≡ true) (sym r.0)
+              (before-last (word_at words i) c.by a r.1)
         ])
       ]
 
@@ -62,23 +65,34 @@ module _ (d : Automaton) where
   done-more i a j b h = elim h [ inl l ↦ inl l | inr r ↦ let l = r.1 in inr (r.0, omega arith) ]
 
   -- the state is there already
-  pub stays : (i a : ℕ) (words : List (List ℕ)) → AreFound d i a words → i < length words → ((k : ℕ) × (k < length words) × (state_of d (word_at words k) ≡ d.step (state_of d (word_at words i)) a)) → AreFound d i (suc a) words
+  pub stays : (i a : ℕ) (words : List (List ℕ)) → AreFound d i a words → i < length words →
+      ((k : ℕ) × (k < length words) × (state_of d (word_at words k) ≡ d.step (state_of d (word_at words i)) a)) → AreFound d i (suc a) words
   stays i a words s il k =
       record {
         some = s.some;
         first = s.first;
         word = s.word;
         rising = s.rising;
-        origin = λ x l. elim (s.origin x l) [ inl e ↦ inl e | inr c ↦ inr (record { from = c.from; by = c.by; within = c.within; done = done-more i a c.from c.by c.done; is = c.is }) ];
+        origin = λ x l. elim (s.origin x l)
+            [ inl e ↦ inl e | inr c ↦ inr (record { from = c.from; by = c.by; within = c.within; done = done-more i a c.from c.by c.done; is = c.is }) ];
         met = λ j b jl bl h. elim (done-next i a j b h) [
           | inl o ↦ s.met j b jl bl o
-          | inr e ↦ subst (λ x. IsMet d words x b) (sym e.0) (subst (λ y. IsMet d words i y) (sym e.1) (record { to = k.0; within = k.1; state = k.2; least = before-not-back (word_at words k.0) (word_at words i ++ a ∷ []) (before-next i a words s il k.0 k.1) }))
+          | inr e ↦ subst (λ x. IsMet d words x b) (sym e.0)
+              (subst (λ y. IsMet d words i y) (sym e.1)
+              (record {
+                to = k.0;
+                within = k.1;
+                state = k.2;
+                least =
+                    before-not-back (word_at words k.0) (word_at words i ++ a ∷ []) (before-next i a words s il k.0 k.1);
+              }))
         ];
         apart = s.apart;
       }
 
   -- a state is new
-  pub grows : (i a : ℕ) (words : List (List ℕ)) → AreFound d i a words → i < length words → a < d.letters → ((k : ℕ) → k < length words → state_of d (word_at words k) ≢ d.step (state_of d (word_at words i)) a) →
+  pub grows : (i a : ℕ) (words : List (List ℕ)) → AreFound d i a words → i < length words → a < d.letters →
+      ((k : ℕ) → k < length words → state_of d (word_at words k) ≢ d.step (state_of d (word_at words i)) a) →
       AreFound d i (suc a) (words ++ (word_at words i ++ a ∷ []) ∷ [])
   grows i a words s il al f =
       let new = word_at words i ++ a ∷ [] in
@@ -86,7 +100,8 @@ module _ (d : Automaton) where
       let len : length all ≡ length words + 1 = length-append words (new ∷ []) in
       let old : (k : ℕ) → k < length words → word_at all k ≡ word_at words k = λ k l. get_or_append_left words (new ∷ []) [] k l in
       let last : word_at all (length words) ≡ new = get_or-append_seam words new [] [] in
-      let end : (k : ℕ) → k < length all → (k < length words) ⊎ (k ≡ length words) = λ k l. elim (cases_lt k (length words)) [ inl x ↦ inl x | inr y ↦ inr (omega arith) ] in
+      let end : (k : ℕ) → k < length all → (k < length words) ⊎ (k ≡ length words) =
+      λ k l. elim (cases_lt k (length words)) [ inl x ↦ inl x | inr y ↦ inr (omega arith) ] in
       let there : state_of d new ≡ d.step (state_of d (word_at words i)) a = walk-append d.step d.start (word_at words i) (a ∷ []) in
       record {
         some = let z = s.some in omega arith;
@@ -96,15 +111,33 @@ module _ (d : Automaton) where
           | inr e ↦ rw (ap (word_at all) e ∙ last) (All-push (λ b. b < d.letters) (word_at words i) a (s.word i il) al)
         ];
         rising = λ j k jk l. elim (end k l) [
-          | inl x ↦ let y : j < length words = omega arith in subst (λ u. comes_before u (word_at all k) ≡ true) (sym (old j y)) (subst (λ v. comes_before (word_at words j) v ≡ true) (sym (old k x)) (s.rising j k jk x))
-          | inr e ↦ let y : j < length words = omega arith in subst (λ u. comes_before u (word_at all k) ≡ true) (sym (old j y)) (subst (λ v. comes_before (word_at words j) v ≡ true) (sym (ap (word_at all) e ∙ last)) (before-next i a words s il j y))
+          | inl x ↦ let y : j < length words = omega arith in
+              subst (λ u. comes_before u (word_at all k) ≡ true) (sym (old j y))
+              (subst (λ v. comes_before (word_at words j) v ≡ true) (sym (old k x)) (s.rising j k jk x))
+          | inr e ↦ let y : j < length words = omega arith in
+              subst (λ u. comes_before u (word_at all k) ≡ true) (sym (old j y))
+              (subst (λ v. comes_before (word_at words j) v ≡ true) (sym (ap (word_at all) e ∙ last)) (before-next i a words s il j y))
         ];
         origin = λ k l. elim (end k l) [
           | inl x ↦ elim (s.origin k x) [
             | inl e ↦ inl (old k x ∙ e)
-            | inr c ↦ inr (record { from = c.from; by = c.by; within = let z = c.within in omega arith; done = done-more i a c.from c.by c.done; is = old k x ∙ c.is ∙ ap (λ u. u ++ c.by ∷ []) (sym (old c.from c.within)) })
+            | inr c ↦ inr (record {
+              from = c.from;
+              by = c.by;
+              within = let z = c.within in omega arith;
+              done = done-more i a c.from c.by c.done;
+              is = old k x
+                  ∙ c.is ∙ ap (λ u. u ++ c.by ∷ []) (sym (old c.from c.within));
+            })
           ]
-          | inr e ↦ inr (record { from = i; by = a; within = omega arith; done = inr (refl, omega arith); is = ap (word_at all) e ∙ last ∙ ap (λ u. u ++ a ∷ []) (sym (old i il)) })
+          | inr e ↦ inr (record {
+            from = i;
+            by = a;
+            within = omega arith;
+            done = inr (refl, omega arith);
+            is = ap (word_at all) e ∙ last
+                ∙ ap (λ u. u ++ a ∷ []) (sym (old i il));
+          })
         ];
         met = λ j b jl bl h. elim (done-next i a j b h) [
           | inl o ↦ elim (end j jl) [
@@ -114,7 +147,8 @@ module _ (d : Automaton) where
                   to = c.to;
                   within = let z = c.within in omega arith;
                   state = ap (state_of d) (old c.to c.within) ∙ c.state ∙ ap (λ u. d.step (state_of d u) b) (sym (old j x));
-                  least = subst (λ u. comes_before (u ++ b ∷ []) (word_at all c.to) ≡ false) (sym (old j x)) (subst (λ v. comes_before (word_at words j ++ b ∷ []) v ≡ false) (sym (old c.to c.within)) c.least);
+                  least = subst (λ u. comes_before (u ++ b ∷ []) (word_at all c.to) ≡ false) (sym (old j x))
+                      (subst (λ v. comes_before (word_at words j ++ b ∷ []) v ≡ false) (sym (old c.to c.within)) c.least);
                 }
             | inr e ↦ absurd (elim o [ inl l ↦ omega arith | inr r ↦ let z = r.0 in omega arith ])
           ]
@@ -122,7 +156,8 @@ module _ (d : Automaton) where
             to = length words;
             within = omega arith;
             state = ap (state_of d) last ∙ there ∙ ap (λ u. d.step (state_of d u) a) (sym (old i il));
-            least = subst (λ u. comes_before (u ++ a ∷ []) (word_at all (length words)) ≡ false) (sym (old i il)) (subst (λ v. comes_before new v ≡ false) (sym last) (false_from_ne_true (comes_before new new) (before-not-self new)));
+            least = subst (λ u. comes_before (u ++ a ∷ []) (word_at all (length words)) ≡ false) (sym (old i il))
+                (subst (λ v. comes_before new v ≡ false) (sym last) (false_from_ne_true (comes_before new new) (before-not-self new)));
           }))
         ];
         apart = λ j k jk l e. elim (end k l) [
@@ -143,7 +178,14 @@ module _ (d : Automaton) where
         rising = s.rising;
         origin = λ k l. elim (s.origin k l) [
           | inl e ↦ inl e
-          | inr c ↦ inr (record { from = c.from; by = c.by; within = c.within; done = elim c.done [ inl x ↦ inl (omega arith) | inr x ↦ let z = x.0 in inl (omega arith) ]; is = c.is })
+          | inr c ↦ inr (record {
+            from = c.from;
+            by = c.by;
+            within = c.within;
+            done =
+                elim c.done [ inl x ↦ inl (omega arith) | inr x ↦ let z = x.0 in inl (omega arith) ];
+            is = c.is;
+          })
         ];
         met = λ j b jl bl h. s.met j b jl bl (elim h [
           | inl x ↦ elim (cases_eq j i) [ inl e ↦ inr (e, bl) | inr n ↦ inl (omega arith) ]
@@ -190,7 +232,8 @@ module _ (d : Automaton) (words : List (List ℕ)) (done : ℕ) (s : AreFound d 
         place = c.to;
         within = c.within;
         state = c.state ∙ ap (λ q. d.step q a) m.state ∙ sym (walk-append d.step d.start x (a ∷ []));
-        least = not-before-trans (word_at words c.to) (word_at words m.place ++ a ∷ []) (x ++ a ∷ []) c.least (not-before-more x (word_at words m.place) a m.least);
+        least = not-before-trans (word_at words c.to) (word_at words m.place ++ a ∷ []) (x ++ a ∷ []) c.least
+            (not-before-more x (word_at words m.place) a m.least);
       } in
       subst (λ z. Meets z) sh (meets-more (x ++ a ∷ []) y (subst (λ z. IsWord d.letters z) (sym sh) h) one)
 
@@ -219,7 +262,8 @@ module _ (d : Automaton) (words : List (List ℕ)) (done : ℕ) (s : AreFound d 
       ]
 
   -- no word that leads where word k does comes before it
-  pub found-least : (k : ℕ) (v : List ℕ) → k < length words → IsWord d.letters v → state_of d v ≡ state_of d (word_at words k) → comes_before v (word_at words k) ≡ false
+  pub found-least : (k : ℕ) (v : List ℕ) → k < length words → IsWord d.letters v → state_of d v ≡ state_of d (word_at words k) →
+      comes_before v (word_at words k) ≡ false
   found-least k v l h e =
       let m = meets-all v h in
       subst (λ x. comes_before v (word_at words x) ≡ false) (same-place m.place k m.within l (m.state ∙ e)) m.least

@@ -44,7 +44,8 @@ module _ (d : Automaton) (total : IsTotal d) (c : List ℕ) (classes : AreClasse
       let e = alike-class (d.step n a) (d.step q a) (total.steps n a nl al) (total.steps q a l al) alike in
       ap (λ x. walk (merged d c).step x w) e ∙ walk-merged w (d.step q a) (total.steps q a l al) (All-tail (λ b. b < d.letters) a w h)
 
-  accepts-merged : (w : List ℕ) (q : ℕ) → q < d.states → IsWord d.letters w → d.accepts (walk (merged d c).step (slice_index c q) w) ≡ d.accepts (walk d.step q w)
+  accepts-merged : (w : List ℕ) (q : ℕ) → q < d.states → IsWord d.letters w →
+      d.accepts (walk (merged d c).step (slice_index c q) w) ≡ d.accepts (walk d.step q w)
   accepts-merged w q l h =
       let r = walk d.step q w in
       let rl = walk-below d total q w l h in
@@ -55,7 +56,8 @@ module _ (d : Automaton) (total : IsTotal d) (c : List ℕ) (classes : AreClasse
   merged-accepts w h = accepts-merged w d.start total.starts h
 
   -- a word leads to a state that names its class
-  pub merged-own : (w : List ℕ) → IsWord d.letters w → (state_of (merged d c) w < d.states) × (slice_index c (state_of (merged d c) w) ≡ state_of (merged d c) w)
+  pub merged-own : (w : List ℕ) → IsWord d.letters w → (state_of (merged d c) w < d.states)
+      × (slice_index c (state_of (merged d c) w) ≡ state_of (merged d c) w)
   merged-own w h =
       let e = walk-merged w d.start total.starts h in
       let l = walk-below d total d.start w total.starts h in
@@ -65,6 +67,8 @@ module _ (d : Automaton) (total : IsTotal d) (c : List ℕ) (classes : AreClasse
   pub merged-told : (q r : ℕ) → q < d.states → r < d.states → slice_index c q ≡ q → slice_index c r ≡ r → q ≢ r → AreToldApart (merged d c) q r
   merged-told q r ql rl qo ro ne =
       let w = class-told q r ql rl (λ e. ne (sym qo ∙ e ∙ ro)) in
-      let eq : d.accepts (walk (merged d c).step q w.0) ≡ d.accepts (walk d.step q w.0) = ap (λ x. d.accepts (walk (merged d c).step x w.0)) (sym qo) ∙ accepts-merged w.0 q ql w.1.word in
-      let er : d.accepts (walk (merged d c).step r w.0) ≡ d.accepts (walk d.step r w.0) = ap (λ x. d.accepts (walk (merged d c).step x w.0)) (sym ro) ∙ accepts-merged w.0 r rl w.1.word in
+      let eq : d.accepts (walk (merged d c).step q w.0) ≡ d.accepts (walk d.step q w.0) = ap (λ x. d.accepts (walk (merged d c).step x w.0)) (sym qo)
+      ∙ accepts-merged w.0 q ql w.1.word in
+      let er : d.accepts (walk (merged d c).step r w.0) ≡ d.accepts (walk d.step r w.0) = ap (λ x. d.accepts (walk (merged d c).step x w.0)) (sym ro)
+      ∙ accepts-merged w.0 r rl w.1.word in
       (w.0, record { word = w.1.word; apart = λ e. w.1.apart (sym eq ∙ e ∙ er) })

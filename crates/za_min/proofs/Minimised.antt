@@ -12,11 +12,13 @@ use Rattle.za_min.proofs.Renumber.{renumbered-accepts, renumbered-numbered, renu
 use Rattle.za_min.proofs.Split.{split-least}
 use Rattle.za_min.proofs.FoundSteps.{classes-total, words-few}
 
-module _ (dfa : CompleteDfa) (classes : List ℕ) (of : AreClassesOf dfa classes) (words : List (List ℕ)) (states : List ℕ) (f : AreAllFound (merged_of dfa classes) words states) (e : Automaton) (new : Renumbers (merged_of dfa classes) words e) where
+module _ (dfa : CompleteDfa) (classes : List ℕ) (of : AreClassesOf dfa classes) (words : List (List ℕ)) (states : List ℕ)
+    (f : AreAllFound (merged_of dfa classes) words states) (e : Automaton) (new : Renumbers (merged_of dfa classes) words e) where
   minimised-language : HaveSameLanguage e (automaton_of dfa)
   minimised-language w h =
       let h' : IsWord (length dfa.alphabet.letters) w = subst (λ n. IsWord n w) new.letters h in
-      renumbered-accepts (merged_of dfa classes) words f.done f.found.found f.all e new w h ∙ merged-accepts (automaton_of dfa) (classes-total dfa classes of) classes of.stable w h'
+      renumbered-accepts (merged_of dfa classes) words f.done f.found.found f.all e new w h
+      ∙ merged-accepts (automaton_of dfa) (classes-total dfa classes of) classes of.stable w h'
 
   minimised-numbered : IsNumberedBy e words
   minimised-numbered = renumbered-numbered (merged_of dfa classes) words f.done f.found.found f.all e new
@@ -24,10 +26,12 @@ module _ (dfa : CompleteDfa) (classes : List ℕ) (of : AreClassesOf dfa classes
   minimised-minimal : IsMinimal e
   minimised-minimal =
       renumbered-minimal (merged_of dfa classes) words f.done f.found.found f.all e new (λ j k jl kl ne.
-      let own : (i : ℕ) → i < length words → _ = λ i l. merged-own (automaton_of dfa) (classes-total dfa classes of) classes of.stable (word_at words i) (f.found.found.word i l) in
+      let own : (i : ℕ) → i < length words → _ =
+      λ i l. merged-own (automaton_of dfa) (classes-total dfa classes of) classes of.stable (word_at words i) (f.found.found.word i l) in
       let oj = own j jl in
       let ok = own k kl in
-      merged-told (automaton_of dfa) (classes-total dfa classes of) classes of.stable (state_of (merged_of dfa classes) (word_at words j)) (state_of (merged_of dfa classes) (word_at words k)) oj.0 ok.0 oj.1 ok.1 ne)
+      merged-told (automaton_of dfa) (classes-total dfa classes of) classes of.stable (state_of (merged_of dfa classes) (word_at words j))
+      (state_of (merged_of dfa classes) (word_at words k)) oj.0 ok.0 oj.1 ok.1 ne)
 
   minimised-no_larger : e.states ≤ dfa.states
   minimised-no_larger = let few = words-few dfa classes of f.done 0 words states f.found in let states = new.states in omega arith
@@ -38,7 +42,8 @@ pub record IsMinimised (dfa : CompleteDfa) (words : List (List ℕ)) (table : Co
   pub numbered : IsNumberedBy (automaton_of table) words
   pub no_larger : table.states ≤ dfa.states
 
-pub minimised : (dfa : CompleteDfa) (classes : List ℕ) (of : AreClassesOf dfa classes) (words : List (List ℕ)) (states : List ℕ) → AreAllFound (merged_of dfa classes) words states → (table : CompleteDfa) → IsComplete table → table.alphabet ≡ dfa.alphabet →
+pub minimised : (dfa : CompleteDfa) (classes : List ℕ) (of : AreClassesOf dfa classes) (words : List (List ℕ)) (states : List ℕ) →
+    AreAllFound (merged_of dfa classes) words states → (table : CompleteDfa) → IsComplete table → table.alphabet ≡ dfa.alphabet →
     Renumbers (merged_of dfa classes) words (automaton_of table) → IsMinimised dfa words table
 minimised dfa classes of words states f table whole same new =
     let numbered = minimised-numbered dfa classes of words states f (automaton_of table) new in
@@ -65,5 +70,7 @@ alike-one d q r m ql rl alike =
 
 -- the word that is read off the rounds
 pub split-apart : (d : Automaton) → IsTotal d → (n q r : ℕ) (w : List ℕ) → IsSplit d n q r → w ≡ split_word d n q r → (q ≢ r) × IsLeastApart d q r w
-split-apart d total n q r w s e =
-    (λ same. s.apart (ap (λ x. Rattle.std.specs.Prelude.slice_index (Rattle.za_min.specs.Private.Rounds.rounds d n) x) same), subst (IsLeastApart d q r) (sym e) (split-least d total n q r s))
+split-apart d total n q r w s e = (
+  λ same. s.apart (ap (λ x. Rattle.std.specs.Prelude.slice_index (Rattle.za_min.specs.Private.Rounds.rounds d n) x) same),
+  subst (IsLeastApart d q r) (sym e) (split-least d total n q r s),
+)

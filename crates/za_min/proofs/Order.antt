@@ -1,5 +1,6 @@
 -- Shortlex order is total and transitive, so a least word is one, and longer words keep the order.
-use Rattle.std.proofs.Common.{◌≡◌, ℕ, ◌<◌, true, false, ◌&&◌, ◌⊎◌, inl, inr, List, [], ◌∷◌, ◌++◌, ◌==◌, length, nat_lt, refl, sym, subst, ◌∙◌, arith, eqb-true, ltb-true, eq-eqb, length-append}
+use Rattle.std.proofs.Common.{◌≡◌, ℕ, ◌<◌, true, false, ◌&&◌, ◌⊎◌, inl, inr, List, [], ◌∷◌, ◌++◌, ◌==◌, length, nat_lt, refl, sym, subst, ◌∙◌, arith, eqb-true}
+use Rattle.std.proofs.Common.{ltb-true, eq-eqb, length-append}
 use Rattle.std.proofs.lemmas.Bool.{cases_order, and_parts, and_from, or_cases, or_left, or_right, lt-ltb, false_from_ne_true}
 use Rattle.za_min.specs.Shortlex.{is_lower, comes_before, IsLeastWord}
 
@@ -36,7 +37,8 @@ lower-trans (a ∷ u) (b ∷ v) [] h k = cc
 lower-trans (a ∷ u) (b ∷ v) (c ∷ w) h k =
     elim (lower-cons a b u v h) [
       | inl l ↦ elim (lower-cons b c v w k) [ inl m ↦ lower-less a c u w (omega arith) | inr m ↦ let e = m.0 in lower-less a c u w (omega arith) ]
-      | inr l ↦ elim (lower-cons b c v w k) [ inl m ↦ let e = l.0 in lower-less a c u w (omega arith) | inr m ↦ lower-same a c u w (l.0 ∙ m.0) (lower-trans u v w l.1 m.1) ]
+      | inr l ↦ elim (lower-cons b c v w k)
+          [ inl m ↦ let e = l.0 in lower-less a c u w (omega arith) | inr m ↦ lower-same a c u w (l.0 ∙ m.0) (lower-trans u v w l.1 m.1) ]
     ]
 
 pub before-cases : (u v : List ℕ) → comes_before u v ≡ true → (length u < length v) ⊎ ((length u ≡ length v) × (is_lower u v ≡ true))
@@ -50,13 +52,15 @@ pub before-shorter : (u v : List ℕ) → length u < length v → comes_before u
 before-shorter u v l = or_left (nat_lt (length u) (length v)) (length u == length v && is_lower u v) (lt-ltb (length u) (length v) l)
 
 pub before-lower : (u v : List ℕ) → length u ≡ length v → is_lower u v ≡ true → comes_before u v ≡ true
-before-lower u v e h = or_right (nat_lt (length u) (length v)) (length u == length v && is_lower u v) (and_from (length u == length v) (is_lower u v) (eq-eqb (length u) (length v) e) h)
+before-lower u v e h = or_right (nat_lt (length u) (length v)) (length u == length v && is_lower u v)
+    (and_from (length u == length v) (is_lower u v) (eq-eqb (length u) (length v) e) h)
 
 pub before-trans : (u v w : List ℕ) → comes_before u v ≡ true → comes_before v w ≡ true → comes_before u w ≡ true
 before-trans u v w h k =
     elim (before-cases u v h) [
       | inl l ↦ elim (before-cases v w k) [ inl m ↦ before-shorter u w (omega arith) | inr m ↦ let e = m.0 in before-shorter u w (omega arith) ]
-      | inr l ↦ elim (before-cases v w k) [ inl m ↦ let e = l.0 in before-shorter u w (omega arith) | inr m ↦ before-lower u w (l.0 ∙ m.0) (lower-trans u v w l.1 m.1) ]
+      | inr l ↦ elim (before-cases v w k)
+          [ inl m ↦ let e = l.0 in before-shorter u w (omega arith) | inr m ↦ before-lower u w (l.0 ∙ m.0) (lower-trans u v w l.1 m.1) ]
     ]
 
 pub before-total : (u v : List ℕ) → (u ≡ v) ⊎ ((comes_before u v ≡ true) ⊎ (comes_before v u ≡ true))
@@ -93,7 +97,11 @@ pub lower-more : (u v x y : List ℕ) → length u ≡ length v → is_lower u v
 lower-more [] v x y e h = cc
 lower-more (a ∷ u) [] x y e h = cc
 lower-more (a ∷ u) (b ∷ v) x y e h =
-    elim (lower-cons a b u v h) [ inl l ↦ lower-less a b (u ++ x) (v ++ y) l | inr r ↦ lower-same a b (u ++ x) (v ++ y) r.0 (lower-more u v x y (omega arith) r.1) ]
+    elim (lower-cons a b u v h) [
+      | inl l ↦ lower-less a b (u ++ x) (v ++ y) l
+      | inr r ↦ lower-same a b (u ++ x) (v ++ y) r.0
+          (lower-more u v x y (omega arith) r.1)
+    ]
 
 lower-last : (u : List ℕ) (a b : ℕ) → a < b → is_lower (u ++ a ∷ []) (u ++ b ∷ []) ≡ true
 lower-last [] a b l = lower-less a b [] [] l
@@ -109,7 +117,8 @@ before-more u v a b h =
     ]
 
 pub before-last : (u : List ℕ) (a b : ℕ) → a < b → comes_before (u ++ a ∷ []) (u ++ b ∷ []) ≡ true
-before-last u a b l = before-lower (u ++ a ∷ []) (u ++ b ∷ []) (let x = length-append u (a ∷ []) in let y = length-append u (b ∷ []) in omega arith) (lower-last u a b l)
+before-last u a b l = before-lower (u ++ a ∷ []) (u ++ b ∷ []) (let x = length-append u (a ∷ []) in let y = length-append u (b ∷ []) in omega arith)
+    (lower-last u a b l)
 
 pub before-nil : (u : List ℕ) (a : ℕ) → comes_before [] (u ++ a ∷ []) ≡ true
 before-nil u a = before-shorter [] (u ++ a ∷ []) (let x = length-append u (a ∷ []) in omega arith)
@@ -125,6 +134,7 @@ not-before-trans u v w h k =
 pub not-before-more : (u v : List ℕ) (a : ℕ) → comes_before u v ≡ false → comes_before (u ++ a ∷ []) (v ++ a ∷ []) ≡ false
 not-before-more u v a h =
     elim (before-total u v) [
-      | inl e ↦ false_from_ne_true (comes_before (u ++ a ∷ []) (v ++ a ∷ [])) (λ t. before-not-self (v ++ a ∷ []) (subst (λ x. comes_before (x ++ a ∷ []) (v ++ a ∷ []) ≡ true) e t))
+      | inl e ↦ false_from_ne_true (comes_before (u ++ a ∷ []) (v ++ a ∷ []))
+          (λ t. before-not-self (v ++ a ∷ []) (subst (λ x. comes_before (x ++ a ∷ []) (v ++ a ∷ []) ≡ true) e t))
       | inr o ↦ elim o [ inl l ↦ cc | inr g ↦ before-not-back (v ++ a ∷ []) (u ++ a ∷ []) (before-more v u a a g) ]
     ]

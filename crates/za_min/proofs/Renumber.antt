@@ -8,7 +8,8 @@ use Rattle.za_min.specs.Minimal.{word_at, AreToldApart, IsMinimal, IsNumberedBy,
 use Rattle.za_min.specs.Private.Exploring.{state_of, AreFound, Renumbers}
 use Rattle.za_min.proofs.Found.{same-place, found-least}
 
-module _ (d : Automaton) (words : List (List ℕ)) (done : ℕ) (s : AreFound d done 0 words) (all : length words ≤ done) (e : Automaton) (new : Renumbers d words e) where
+module _ (d : Automaton) (words : List (List ℕ)) (done : ℕ) (s : AreFound d done 0 words) (all : length words ≤ done) (e : Automaton)
+    (new : Renumbers d words e) where
   word-of-d : (w : List ℕ) → IsWord e.letters w → IsWord d.letters w
   word-of-d w h = subst (λ n. IsWord n w) new.letters h
 
@@ -27,7 +28,8 @@ module _ (d : Automaton) (words : List (List ℕ)) (done : ℕ) (s : AreFound d 
       }
 
   -- where words lead
-  walk-renumbered : (w : List ℕ) (k : ℕ) → k < length words → IsWord d.letters w → state_of d (word_at words (walk e.step k w)) ≡ walk d.step (state_of d (word_at words k)) w
+  walk-renumbered : (w : List ℕ) (k : ℕ) → k < length words → IsWord d.letters w →
+      state_of d (word_at words (walk e.step k w)) ≡ walk d.step (state_of d (word_at words k)) w
   walk-renumbered [] k l h = refl
   walk-renumbered (a ∷ w) k l h =
       let t = new.steps k a l (All-head (λ b. b < d.letters) a w h) in
@@ -69,11 +71,13 @@ module _ (d : Automaton) (words : List (List ℕ)) (done : ℕ) (s : AreFound d 
       }
 
   -- where any two states of d that words lead to are told apart, the automaton is minimal
-  pub renumbered-minimal : ((j k : ℕ) → j < length words → k < length words → state_of d (word_at words j) ≢ state_of d (word_at words k) → AreToldApart d (state_of d (word_at words j)) (state_of d (word_at words k))) → IsMinimal e
+  pub renumbered-minimal : ((j k : ℕ) → j < length words → k < length words → state_of d (word_at words j) ≢ state_of d (word_at words k) →
+      AreToldApart d (state_of d (word_at words j)) (state_of d (word_at words k))) → IsMinimal e
   renumbered-minimal told =
       let states = new.states in
       record {
-        reached = λ k kl. let l : k < length words = omega arith in (word_at words k, record { word = word-of-e (word_at words k) (s.word k l); there = reached-at k l });
+        reached = λ k kl. let l : k < length words = omega arith in
+            (word_at words k, record { word = word-of-e (word_at words k) (s.word k l); there = reached-at k l });
         told = λ j k jl kl ne.
             let j' : j < length words = omega arith in
             let k' : k < length words = omega arith in
@@ -81,6 +85,7 @@ module _ (d : Automaton) (words : List (List ℕ)) (done : ℕ) (s : AreFound d 
             let h = w.1.word in
             let he = word-of-e w.0 h in
             let at : (i : ℕ) → i < length words → e.accepts (walk e.step i w.0) ≡ d.accepts (walk d.step (state_of d (word_at words i)) w.0) =
-            λ i il. new.accepts (walk e.step i w.0) (let l = walk-below e renumbered-total i w.0 (omega arith) he in omega arith) ∙ ap d.accepts (walk-renumbered w.0 i il h) in
+            λ i il. new.accepts (walk e.step i w.0) (let l = walk-below e renumbered-total i w.0 (omega arith) he in omega arith)
+            ∙ ap d.accepts (walk-renumbered w.0 i il h) in
             (w.0, record { word = he; apart = λ same. w.1.apart (sym (at j j') ∙ same ∙ at k k') });
       }

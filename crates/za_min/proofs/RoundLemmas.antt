@@ -1,5 +1,6 @@
 -- After n rounds states are in one class exactly if no word of at most n letters tells them apart.
-use Rattle.std.proofs.Common.{◌≡◌, ℕ, zero, suc, ◌<◌, ◌≤◌, Bool, true, false, ◌↔◌, List, [], ◌∷◌, ◌==◌, Option, Some, None, length, slice_index, refl, sym, ap, subst, ◌∙◌, arith, eqb-true, eq-eqb, cond}
+use Rattle.std.proofs.Common.{◌≡◌, ℕ, zero, suc, ◌<◌, ◌≤◌, Bool, true, false, ◌↔◌, List, [], ◌∷◌, ◌==◌, Option, Some, None, length, slice_index, refl, sym, ap}
+use Rattle.std.proofs.Common.{subst, ◌∙◌, arith, eqb-true, eq-eqb, cond}
 use Rattle.std.specs.List.{list_all, range_with_len}
 use Rattle.std.specs.Cmp.{both_ways}
 use Rattle.std.proofs.lemmas.Bool.{and_parts, and_from}
@@ -16,7 +17,8 @@ use Rattle.za_min.specs.Private.Rounds.{AreAlike, are_same, classes_by, same_end
 least-agree : (s t : ℕ → Bool) (n : ℕ) → ((k : ℕ) → s k ≡ t k) → least s n ≡ least t n
 least-agree s t zero h = refl
 least-agree s t (suc n) h =
-    ap (λ b. cond b 0 (suc (least (λ k. s (suc k)) n))) (h 0) ∙ ap (λ m. cond (t 0) 0 (suc m)) (least-agree (λ k. s (suc k)) (λ k. t (suc k)) n (λ k. h (suc k)))
+    ap (λ b. cond b 0 (suc (least (λ k. s (suc k)) n))) (h 0)
+    ∙ ap (λ m. cond (t 0) 0 (suc m)) (least-agree (λ k. s (suc k)) (λ k. t (suc k)) n (λ k. h (suc k)))
 
 -- an equivalence
 record IsTest (E : ℕ → ℕ → Bool) : Type 0 where
@@ -65,22 +67,28 @@ module _ (d : Automaton) where
       record {
         own = λ q. accepts-same (d.accepts q) (d.accepts q) refl;
         turned = λ q r h. accepts-same (d.accepts r) (d.accepts q) (sym (same-accepts (d.accepts q) (d.accepts r) h));
-        joined = λ q r s h k. accepts-same (d.accepts q) (d.accepts s) (same-accepts (d.accepts q) (d.accepts r) h ∙ same-accepts (d.accepts r) (d.accepts s) k);
+        joined = λ q r s h k. accepts-same (d.accepts q) (d.accepts s)
+            (same-accepts (d.accepts q) (d.accepts r) h ∙ same-accepts (d.accepts r) (d.accepts s) k);
       }
 
   -- what the test of a round says
-  pub next-parts : (c : List ℕ) (q r : ℕ) → same_next d c q r ≡ true → (slice_index c q ≡ slice_index c r) × ((a : ℕ) → a < d.letters → slice_index c (d.step q a) ≡ slice_index c (d.step r a))
+  pub next-parts : (c : List ℕ) (q r : ℕ) → same_next d c q r ≡ true → (slice_index c q ≡ slice_index c r)
+      × ((a : ℕ) → a < d.letters → slice_index c (d.step q a) ≡ slice_index c (d.step r a))
   next-parts c q r h =
-      let k = and_parts (slice_index c q == slice_index c r) (list_all (λ a. slice_index c (d.step q a) == slice_index c (d.step r a)) (range_with_len 0 d.letters)) h in (
+      let k = and_parts (slice_index c q == slice_index c r)
+      (list_all (λ a. slice_index c (d.step q a) == slice_index c (d.step r a)) (range_with_len 0 d.letters)) h in (
         eqb-true (slice_index c q) (slice_index c r) k.0,
-        λ a l. eqb-true (slice_index c (d.step q a)) (slice_index c (d.step r a)) (range_elim (λ a. slice_index c (d.step q a) == slice_index c (d.step r a)) d.letters a k.1 l),
+        λ a l. eqb-true (slice_index c (d.step q a)) (slice_index c (d.step r a))
+            (range_elim (λ a. slice_index c (d.step q a) == slice_index c (d.step r a)) d.letters a k.1 l),
       )
 
-  pub next-from : (c : List ℕ) (q r : ℕ) → slice_index c q ≡ slice_index c r → ((a : ℕ) → a < d.letters → slice_index c (d.step q a) ≡ slice_index c (d.step r a)) → same_next d c q r ≡ true
+  pub next-from : (c : List ℕ) (q r : ℕ) → slice_index c q ≡ slice_index c r →
+      ((a : ℕ) → a < d.letters → slice_index c (d.step q a) ≡ slice_index c (d.step r a)) → same_next d c q r ≡ true
   next-from c q r e f =
       and_from (slice_index c q == slice_index c r) (list_all (λ a. slice_index c (d.step q a) == slice_index c (d.step r a)) (range_with_len 0 d.letters))
       (eq-eqb (slice_index c q) (slice_index c r) e)
-      (range_intro (λ a. slice_index c (d.step q a) == slice_index c (d.step r a)) d.letters (λ a l. eq-eqb (slice_index c (d.step q a)) (slice_index c (d.step r a)) (f a l)))
+      (range_intro (λ a. slice_index c (d.step q a) == slice_index c (d.step r a)) d.letters
+      (λ a l. eq-eqb (slice_index c (d.step q a)) (slice_index c (d.step r a)) (f a l)))
 
   test-next : (c : List ℕ) → IsTest (same_next d c)
   test-next c =
@@ -102,14 +110,16 @@ module _ (d : Automaton) (total : IsTotal d) where
   rounds-sound zero q r ql rl e [] h l = same-accepts (d.accepts q) (d.accepts r) (class-back d.states (same_end d) q r (test-first d) ql rl e)
   rounds-sound zero q r ql rl e (a ∷ w) h l = absurd (omega arith)
   rounds-sound (suc k) q r ql rl e [] h l =
-      rounds-sound k q r ql rl (next-parts d (rounds d k) q r (class-back d.states (same_next d (rounds d k)) q r (test-next d (rounds d k)) ql rl e)).0 [] h (omega arith)
+      rounds-sound k q r ql rl (next-parts d (rounds d k) q r (class-back d.states (same_next d (rounds d k)) q r (test-next d (rounds d k)) ql rl e)).0 [] h
+      (omega arith)
   rounds-sound (suc k) q r ql rl e (a ∷ w) h l =
       let al = All-head (λ c. c < d.letters) a w h in
       let n = next-parts d (rounds d k) q r (class-back d.states (same_next d (rounds d k)) q r (test-next d (rounds d k)) ql rl e) in
       rounds-sound k (d.step q a) (d.step r a) (total.steps q a ql al) (total.steps r a rl al) (n.1 a al) w (All-tail (λ c. c < d.letters) a w h) (omega arith)
 
   -- states that no short word tells apart are in one class
-  pub rounds-complete : (k q r : ℕ) → q < d.states → r < d.states → ((w : List ℕ) → IsWord d.letters w → length w ≤ k → d.accepts (walk d.step q w) ≡ d.accepts (walk d.step r w)) →
+  pub rounds-complete : (k q r : ℕ) → q < d.states → r < d.states →
+      ((w : List ℕ) → IsWord d.letters w → length w ≤ k → d.accepts (walk d.step q w) ≡ d.accepts (walk d.step r w)) →
       slice_index (rounds d k) q ≡ slice_index (rounds d k) r
   rounds-complete zero q r ql rl f =
       class-same d.states (same_end d) q r (test-first d) ql rl (accepts-same (d.accepts q) (d.accepts r) (f [] (All-nil (λ c. c < d.letters)) (omega arith)))
@@ -117,10 +127,12 @@ module _ (d : Automaton) (total : IsTotal d) where
       class-same d.states (same_next d (rounds d k)) q r (test-next d (rounds d k)) ql rl
       (next-from d (rounds d k) q r
       (rounds-complete k q r ql rl (λ w h l. f w h (omega arith)))
-      (λ a al. rounds-complete k (d.step q a) (d.step r a) (total.steps q a ql al) (total.steps r a rl al) (λ w h l. f (a ∷ w) (All-cons (λ c. c < d.letters) a w al h) (omega arith))))
+      (λ a al. rounds-complete k (d.step q a) (d.step r a) (total.steps q a ql al) (total.steps r a rl al)
+      (λ w h l. f (a ∷ w) (All-cons (λ c. c < d.letters) a w al h) (omega arith))))
 
   -- where a round changes nothing, no word tells the states of a class apart
-  pub stable-alike : (k : ℕ) → refine d (rounds d k) ≡ rounds d k → (w : List ℕ) (q r : ℕ) → q < d.states → r < d.states → slice_index (rounds d k) q ≡ slice_index (rounds d k) r →
+  pub stable-alike : (k : ℕ) → refine d (rounds d k) ≡ rounds d k → (w : List ℕ) (q r : ℕ) → q < d.states → r < d.states →
+      slice_index (rounds d k) q ≡ slice_index (rounds d k) r →
       IsWord d.letters w → d.accepts (walk d.step q w) ≡ d.accepts (walk d.step r w)
   stable-alike k s [] q r ql rl e h = rounds-sound k q r ql rl e [] h (omega arith)
   stable-alike k s (a ∷ w) q r ql rl e h =
@@ -130,14 +142,16 @@ module _ (d : Automaton) (total : IsTotal d) where
       stable-alike k s w (d.step q a) (d.step r a) (total.steps q a ql al) (total.steps r a rl al) (n.1 a al) (All-tail (λ c. c < d.letters) a w h)
 
 -- so the classes of a stable round are those of states that no word tells apart
-pub stable_classes : (d : Automaton) (k q r : ℕ) → IsTotal d → q < d.states → r < d.states → refine d (rounds d k) ≡ rounds d k → (slice_index (rounds d k) q ≡ slice_index (rounds d k) r) ↔ AreAlike d q r
+pub stable_classes : (d : Automaton) (k q r : ℕ) → IsTotal d → q < d.states → r < d.states → refine d (rounds d k) ≡ rounds d k →
+    (slice_index (rounds d k) q ≡ slice_index (rounds d k) r) ↔ AreAlike d q r
 stable_classes d k q r t ql rl s = (λ e w h. stable-alike d t k s w q r ql rl e h, λ f. rounds-complete d t k q r ql rl (λ w h l. f w h))
 
 -- a class's least state is of the class
 class-le : (n : ℕ) (E : ℕ → ℕ → Bool) (q : ℕ) → IsTest E → q < n → slice_index (classes_by n E) q ≤ q
 class-le n E q t l = let a = class-at n E q l in let b = least-le (λ r. E r q) n q (t.own q) in omega arith
 
-class-own : (n : ℕ) (E : ℕ → ℕ → Bool) (q : ℕ) → IsTest E → q < n → slice_index (classes_by n E) (slice_index (classes_by n E) q) ≡ slice_index (classes_by n E) q
+class-own : (n : ℕ) (E : ℕ → ℕ → Bool) (q : ℕ) → IsTest E → q < n →
+    slice_index (classes_by n E) (slice_index (classes_by n E) q) ≡ slice_index (classes_by n E) q
 class-own n E q t l =
     let m = least (λ r. E r q) n in
     let e = class-at n E q l in
@@ -173,5 +187,6 @@ length-rounds d (suc k) = length-map-range_with_len (λ q. least (λ r. same_nex
 
 -- states of one class that each letter leads into one class stay in one class
 pub rounds-back : (d : Automaton) (k q r : ℕ) → q < d.states → r < d.states → slice_index (rounds d k) q ≡ slice_index (rounds d k) r →
-    ((a : ℕ) → a < d.letters → slice_index (rounds d k) (d.step q a) ≡ slice_index (rounds d k) (d.step r a)) → slice_index (rounds d (suc k)) q ≡ slice_index (rounds d (suc k)) r
+    ((a : ℕ) → a < d.letters → slice_index (rounds d k) (d.step q a) ≡ slice_index (rounds d k) (d.step r a)) →
+    slice_index (rounds d (suc k)) q ≡ slice_index (rounds d (suc k)) r
 rounds-back d k q r ql rl e f = class-same d.states (same_next d (rounds d k)) q r (test-next d (rounds d k)) ql rl (next-from d (rounds d k) q r e f)

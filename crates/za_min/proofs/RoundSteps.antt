@@ -1,5 +1,6 @@
 -- Steps of the rounds as they are computed.
-use Rattle.std.proofs.Common.{◌≡◌, ◌≢◌, ℕ, suc, ◌+◌, ◌-◌, ◌<◌, ◌≤◌, Bool, true, false, inl, inr, List, [], ◌∷◌, length, slice_index, get_or, refl, sym, ap, ◌∙◌, arith, ◌++◌, map}
+use Rattle.std.proofs.Common.{◌≡◌, ◌≢◌, ℕ, suc, ◌+◌, ◌-◌, ◌<◌, ◌≤◌, Bool, true, false, inl, inr, List, [], ◌∷◌, length, slice_index, get_or, refl, sym, ap, ◌∙◌}
+use Rattle.std.proofs.Common.{arith, ◌++◌, map}
 use Rattle.std.specs.List.{range_with_len}
 use Rattle.std.proofs.lemmas.Bool.{cases_eq, false_from_ne_true}
 use Rattle.std.proofs.lemmas.List.{get_or_read}
@@ -19,12 +20,14 @@ same-beq false true = refl
 same-beq false false = refl
 
 -- a letter that leads into two classes
-pub not-same-next : (d : Automaton) (c : List ℕ) (q r a : ℕ) → a < d.letters → slice_index c (d.step q a) ≢ slice_index c (d.step r a) → false ≡ same_next d c q r
+pub not-same-next : (d : Automaton) (c : List ℕ) (q r a : ℕ) → a < d.letters → slice_index c (d.step q a) ≢ slice_index c (d.step r a) →
+    false ≡ same_next d c q r
 not-same-next d c q r a l n = sym (false_from_ne_true (same_next d c q r) (λ h. n ((next-parts d c q r h).1 a l)))
 
 -- one class more
 pub class-more : (f : ℕ → ℕ) (q x : ℕ) (xs ys : List ℕ) → ys ≡ xs ++ x ∷ [] → xs ≡ map f (range_with_len 0 q) → x ≡ f q → ys ≡ map f (range_with_len 0 (q + 1))
-class-more f q x xs ys e h is = e ∙ ap (λ zs. zs ++ x ∷ []) h ∙ ap (λ y. map f (range_with_len 0 q) ++ y ∷ []) is ∙ sym (map-range_with_len_more f 0 q q (omega arith))
+class-more f q x xs ys e h is = e ∙ ap (λ zs. zs ++ x ∷ []) h ∙ ap (λ y. map f (range_with_len 0 q) ++ y ∷ []) is
+    ∙ sym (map-range_with_len_more f 0 q q (omega arith))
 
 -- how far the classes are from n
 abbrev pub gap : ℕ → List ℕ → ℕ
@@ -39,7 +42,8 @@ gap-le n (x ∷ xs) (y ∷ ys) e h =
     let a = h 0 (omega arith) in
     let b = gap-le n xs ys (omega arith) (λ k l. h (suc k) (omega arith)) in omega arith
 
-gap-less : (n : ℕ) (xs ys : List ℕ) → length xs ≡ length ys → ((k : ℕ) → k < length xs → (slice_index xs k ≤ slice_index ys k) × (slice_index ys k ≤ n)) → xs ≢ ys → gap n ys < gap n xs
+gap-less : (n : ℕ) (xs ys : List ℕ) → length xs ≡ length ys → ((k : ℕ) → k < length xs → (slice_index xs k ≤ slice_index ys k) × (slice_index ys k ≤ n)) →
+    xs ≢ ys → gap n ys < gap n xs
 gap-less n [] [] e h ne = absurd (ne refl)
 gap-less n [] (y ∷ ys) e h ne = absurd (omega arith)
 gap-less n (x ∷ xs) [] e h ne = absurd (omega arith)
@@ -71,7 +75,8 @@ pub rows-long : (d : Automaton) (rows : List (List ℕ)) (r : AreRounds d rows) 
 rows-long d rows r = ap length r.rows_each ∙ length-map-range_with_len (rounds d) 0 (r.last + 1)
 
 -- the last row is of classes that no round changes
-pub last-classes : (dfa : CompleteDfa) (rows : List (List ℕ)) (n : ℕ) (c : List ℕ) → AreRoundsOf dfa rows → n ≡ length rows → c ≡ get_or rows (n - 1) c → AreClassesOf dfa c
+pub last-classes : (dfa : CompleteDfa) (rows : List (List ℕ)) (n : ℕ) (c : List ℕ) → AreRoundsOf dfa rows → n ≡ length rows → c ≡ get_or rows (n - 1) c →
+    AreClassesOf dfa c
 last-classes dfa rows n c r e is =
     let d = automaton_of dfa in
     let long = rows-long d rows r.rounds in
@@ -79,5 +84,10 @@ last-classes dfa rows n c r e is =
     let last : n - 1 ≡ r.rounds.last = omega arith in
     record {
       whole = r.whole;
-      stable = record { round = r.rounds.last; is = get_or_read rows (n - 1) c within is [] ∙ row-is d rows r.rounds (n - 1) within ∙ ap (rounds d) last; stable = r.rounds.stable };
+      stable = record {
+        round = r.rounds.last;
+        is = get_or_read rows (n - 1) c within is [] ∙ row-is d rows r.rounds (n - 1) within
+            ∙ ap (rounds d) last;
+        stable = r.rounds.stable;
+      };
     }

@@ -1,5 +1,6 @@
 -- The word that the rounds give is the shortlex-least that tells two states apart.
-use Rattle.std.proofs.Common.{◌≡◌, ◌≢◌, ℕ, zero, suc, ◌<◌, ◌≤◌, Bool, true, false, ◌&&◌, inl, inr, List, [], ◌∷◌, ◌==◌, nat_lt, length, slice_index, refl, ap, subst, ◌∙◌, arith}
+use Rattle.std.proofs.Common.{◌≡◌, ◌≢◌, ℕ, zero, suc, ◌<◌, ◌≤◌, Bool, true, false, ◌&&◌, inl, inr, List, [], ◌∷◌, ◌==◌, nat_lt, length, slice_index, refl, ap}
+use Rattle.std.proofs.Common.{subst, ◌∙◌, arith}
 use Rattle.std.proofs.lemmas.Bool.{cases_lt, cases_eq, eqb-false, or_from, and_left, and_right, ne_eqb, le-ltb, not-true, not_from_false}
 use Rattle.std.proofs.lemmas.List.Elements.{All-head, All-tail, All-cons, All-nil}
 use Rattle.za_alpha.specs.Words.{IsWord}
@@ -24,14 +25,17 @@ module _ (d : Automaton) (total : IsTotal d) where
         | inr ge ↦ absurd (s.apart (rounds-back d n q r s.first s.second (s.before n refl) (λ b bl.
             elim (cases_eq (slice_index (rounds d n) (d.step q b)) (slice_index (rounds d n) (d.step r b))) [
               | inl e ↦ e
-              | inr ne ↦ absurd (let f = least-below test d.letters b (omega arith) in let g : test b ≡ true = not_from_false (slice_index (rounds d n) (d.step q b) == slice_index (rounds d n) (d.step r b)) (ne_eqb (slice_index (rounds d n) (d.step q b)) (slice_index (rounds d n) (d.step r b)) ne) in cc)
+              | inr ne ↦ absurd (let f = least-below test d.letters b (omega arith) in let g : test b ≡ true =
+                  not_from_false (slice_index (rounds d n) (d.step q b) == slice_index (rounds d n) (d.step r b))
+                  (ne_eqb (slice_index (rounds d n) (d.step q b)) (slice_index (rounds d n) (d.step r b)) ne) in cc)
             ])))
       ] in (
         al,
         record {
           first = total.steps q a s.first al;
           second = total.steps r a s.second al;
-          apart = eqb-false (slice_index (rounds d n) (d.step q a)) (slice_index (rounds d n) (d.step r a)) (not-true (slice_index (rounds d n) (d.step q a) == slice_index (rounds d n) (d.step r a)) (least-true test d.letters al));
+          apart = eqb-false (slice_index (rounds d n) (d.step q a)) (slice_index (rounds d n) (d.step r a))
+              (not-true (slice_index (rounds d n) (d.step q a) == slice_index (rounds d n) (d.step r a)) (least-true test d.letters al));
           before = λ k e.
               rounds-complete d total k (d.step q a) (d.step r a) (total.steps q a s.first al) (total.steps r a s.second al)
               (λ w h l. rounds-sound d total n q r s.first s.second (s.before n refl) (a ∷ w) (All-cons (λ c. c < d.letters) a w al h) (omega arith));
@@ -40,7 +44,8 @@ module _ (d : Automaton) (total : IsTotal d) where
 
   -- the word is as long as there are rounds, and tells the states apart
   split-tells : (n q r : ℕ) → IsSplit d n q r →
-      IsWord d.letters (split_word d n q r) × (length (split_word d n q r) ≡ n) × (d.accepts (walk d.step q (split_word d n q r)) ≢ d.accepts (walk d.step r (split_word d n q r)))
+      IsWord d.letters (split_word d n q r) × (length (split_word d n q r) ≡ n)
+      × (d.accepts (walk d.step q (split_word d n q r)) ≢ d.accepts (walk d.step r (split_word d n q r)))
   split-tells zero q r s =
       (All-nil (λ c. c < d.letters), refl, λ e. s.apart (rounds-complete d total 0 q r s.first s.second (λ w h l. only w l e)))
     where
@@ -62,7 +67,8 @@ module _ (d : Automaton) (total : IsTotal d) where
         | inr g ↦ absurd (t (rounds-sound d total n q r s.first s.second (s.before n refl) v h g))
       ]
 
-  split-lower : (n q r : ℕ) (v : List ℕ) → IsSplit d n q r → IsWord d.letters v → length v ≡ n → d.accepts (walk d.step q v) ≢ d.accepts (walk d.step r v) → is_lower v (split_word d n q r) ≡ false
+  split-lower : (n q r : ℕ) (v : List ℕ) → IsSplit d n q r → IsWord d.letters v → length v ≡ n → d.accepts (walk d.step q v) ≢ d.accepts (walk d.step r v) →
+      is_lower v (split_word d n q r) ≡ false
   split-lower n q r [] s h e t = refl
   split-lower zero q r (b ∷ v) s h e t = absurd (omega arith)
   split-lower (suc n) q r (b ∷ v) s h e t =
@@ -74,13 +80,16 @@ module _ (d : Automaton) (total : IsTotal d) where
       let lv : length v ≡ n = omega arith in
       let ne : slice_index (rounds d n) (d.step q b) ≢ slice_index (rounds d n) (d.step r b) =
       λ x. t (rounds-sound d total n (d.step q b) (d.step r b) (total.steps q b s.first bl) (total.steps r b s.second bl) x v hv (omega arith)) in
-      let le = least-le test d.letters b (not_from_false (slice_index (rounds d n) (d.step q b) == slice_index (rounds d n) (d.step r b)) (ne_eqb (slice_index (rounds d n) (d.step q b)) (slice_index (rounds d n) (d.step r b)) ne)) in
+      let le = least-le test d.letters b
+      (not_from_false (slice_index (rounds d n) (d.step q b) == slice_index (rounds d n) (d.step r b))
+      (ne_eqb (slice_index (rounds d n) (d.step q b)) (slice_index (rounds d n) (d.step r b)) ne)) in
       let w = split_word d n (d.step q a) (d.step r a) in
       or_from (nat_lt b a) (b == a && is_lower v w) (le-ltb b a le)
       (elim (cases_eq b a) [
         | inr other ↦ and_left (b == a) (is_lower v w) (ne_eqb b a other)
         | inl same ↦
-            let t' : d.accepts (walk d.step (d.step q a) v) ≢ d.accepts (walk d.step (d.step r a) v) = subst (λ c. d.accepts (walk d.step (d.step q c) v) ≢ d.accepts (walk d.step (d.step r c) v)) same t in
+            let t' : d.accepts (walk d.step (d.step q a) v) ≢ d.accepts (walk d.step (d.step r a) v) =
+            subst (λ c. d.accepts (walk d.step (d.step q c) v) ≢ d.accepts (walk d.step (d.step r c) v)) same t in
             and_right (b == a) (is_lower v w) (split-lower n (d.step q a) (d.step r a) v k.1 hv lv t')
       ])
 
@@ -106,6 +115,16 @@ module _ (d : Automaton) (total : IsTotal d) where
   split-found zero q r ql rl ne = (0, omega arith, record { first = ql; second = rl; apart = ne; before = λ k e. absurd (omega arith) })
   split-found (suc k) q r ql rl ne =
       elim (cases_eq (slice_index (rounds d k) q) (slice_index (rounds d k) r)) [
-        | inl e ↦ (suc k, omega arith, record { first = ql; second = rl; apart = ne; before = λ j s. let same : k ≡ j = omega arith in subst (λ i. slice_index (rounds d i) q ≡ slice_index (rounds d i) r) same e })
+        | inl e ↦ (
+          suc k,
+          omega arith,
+          record {
+            first = ql;
+            second = rl;
+            apart = ne;
+            before = λ j s. let same : k ≡ j = omega arith in
+                subst (λ i. slice_index (rounds d i) q ≡ slice_index (rounds d i) r) same e;
+          },
+        )
         | inr n ↦ let i = split-found k q r ql rl n in let le = i.1 in (i.0, omega arith, i.2)
       ]

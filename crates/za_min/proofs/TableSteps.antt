@@ -1,5 +1,6 @@
 -- The table of the states that were found, as it is computed.
-use Rattle.std.proofs.Common.{◌≡◌, ◌≢◌, ℕ, ◌+◌, ◌*◌, ◌/◌, ◌%◌, ◌<◌, Bool, true, false, ◌&&◌, cond, inl, inr, List, [], ◌∷◌, ◌++◌, length, map, slice_index, Option, Some, None, refl, sym, ap, subst, ◌∙◌, arith, length-append}
+use Rattle.std.proofs.Common.{◌≡◌, ◌≢◌, ℕ, ◌+◌, ◌*◌, ◌/◌, ◌%◌, ◌<◌, Bool, true, false, ◌&&◌, cond, inl, inr, List, [], ◌∷◌, ◌++◌, length, map, slice_index}
+use Rattle.std.proofs.Common.{Option, Some, None, refl, sym, ap, subst, ◌∙◌, arith, length-append}
 use Rattle.std.specs.Prelude.{MatchOption, All, nat_lt}
 use Rattle.std.specs.Option.{IsSome}
 use Rattle.std.proofs.lemmas.Bool.{cases_lt}
@@ -16,14 +17,17 @@ use Rattle.za_min.specs.Private.Exploring.{merged_of, state_of, AreAllFound, IsT
 use Rattle.za_min.proofs.FoundSteps.{state-at, states-of-found, words-few}
 
 -- a place that is found
-pub some-place : (o : Option ℕ) (states : List ℕ) (q : ℕ) → MatchOption o ((k : ℕ) → k < length states → slice_index states k ≢ q) (λ k. (k < length states) × (slice_index states k ≡ q)) →
+pub some-place : (o : Option ℕ) (states : List ℕ) (q : ℕ) →
+    MatchOption o ((k : ℕ) → k < length states → slice_index states k ≢ q) (λ k. (k < length states) × (slice_index states k ≡ q)) →
     (k : ℕ) → k < length states → slice_index states k ≡ q → IsSome o
 some-place None states q nowhere k kl here = absurd (nowhere k kl here)
 some-place (Some t) states q there k kl here = refl
 
-pub at-place : (o : Option ℕ) (states : List ℕ) (q t : ℕ) → MatchOption o ((k : ℕ) → k < length states → slice_index states k ≢ q) (λ k. (k < length states) × (slice_index states k ≡ q)) →
+pub at-place : (o : Option ℕ) (states : List ℕ) (q t : ℕ) →
+    MatchOption o ((k : ℕ) → k < length states → slice_index states k ≢ q) (λ k. (k < length states) × (slice_index states k ≡ q)) →
     o ≡ Some t → (t < length states) × (slice_index states t ≡ q)
-at-place o states q t m e = let P : Option ℕ → Type 0 = λ o. MatchOption o ((k : ℕ) → k < length states → slice_index states k ≢ q) (λ k. (k < length states) × (slice_index states k ≡ q)) in subst P e m
+at-place o states q t m e = let P : Option ℕ → Type 0 =
+    λ o. MatchOption o ((k : ℕ) → k < length states → slice_index states k ≢ q) (λ k. (k < length states) × (slice_index states k ≡ q)) in subst P e m
 
 module _ (d : Automaton) (words : List (List ℕ)) (states : List ℕ) (f : AreAllFound d words states) where
   pub states-long : length states ≡ length words
@@ -33,7 +37,8 @@ module _ (d : Automaton) (words : List (List ℕ)) (states : List ℕ) (f : AreA
   state-is k l = ap (λ xs. slice_index xs k) f.found.states_each ∙ get_or-map (state_of d) words k [] 0 l
 
   -- each letter leads to a state that is found
-  pub target-found : (k a next : ℕ) → k < length words → a < d.letters → next ≡ d.step (state_of d (word_at words k)) a → (t : ℕ) × (t < length states) × (slice_index states t ≡ next)
+  pub target-found : (k a next : ℕ) → k < length words → a < d.letters → next ≡ d.step (state_of d (word_at words k)) a → (t : ℕ) × (t < length states)
+      × (slice_index states t ≡ next)
   target-found k a next l al e =
       let all = f.all in
       let met = f.found.found.met k a l al (inl (omega arith)) in
@@ -48,7 +53,8 @@ module _ (d : Automaton) (words : List (List ℕ)) (states : List ℕ) (f : AreA
       record { within = within; there = sym (state-is t within) ∙ here ∙ e }
 
 -- one target more
-pub targets-more : (d : Automaton) (words : List (List ℕ)) (n t : ℕ) (targets targets' : List ℕ) → AreTargets d words n targets → IsTarget d words (n / d.letters) (n % d.letters) t → targets' ≡ targets ++ t ∷ [] → AreTargets d words (n + 1) targets'
+pub targets-more : (d : Automaton) (words : List (List ℕ)) (n t : ℕ) (targets targets' : List ℕ) → AreTargets d words n targets →
+    IsTarget d words (n / d.letters) (n % d.letters) t → targets' ≡ targets ++ t ∷ [] → AreTargets d words (n + 1) targets'
 targets-more d words n t targets targets' s new e =
     let many = s.many in
     let long = length-append targets (t ∷ []) in
@@ -61,12 +67,15 @@ targets-more d words n t targets targets' s new e =
             subst (λ x. IsTarget d words (i / d.letters) (i % d.letters) x) (sym old) (s.each i less)
         | inr more ↦
             let same : n ≡ i = omega arith in
-            let last : slice_index targets' n ≡ t = ap (λ xs. slice_index xs n) e ∙ ap (λ k. slice_index (targets ++ t ∷ []) k) (sym many) ∙ get_or-append_seam targets t [] 0 in
-            subst (λ j. IsTarget d words (j / d.letters) (j % d.letters) (slice_index targets' j)) same (subst (λ x. IsTarget d words (n / d.letters) (n % d.letters) x) (sym last) new)
+            let last : slice_index targets' n ≡ t = ap (λ xs. slice_index xs n) e ∙ ap (λ k. slice_index (targets ++ t ∷ []) k) (sym many)
+            ∙ get_or-append_seam targets t [] 0 in
+            subst (λ j. IsTarget d words (j / d.letters) (j % d.letters) (slice_index targets' j)) same
+            (subst (λ x. IsTarget d words (n / d.letters) (n % d.letters) x) (sym last) new)
       ];
     }
 
-module _ (dfa : CompleteDfa) (classes : List ℕ) (of : AreClassesOf dfa classes) (words : List (List ℕ)) (states : List ℕ) (f : AreAllFound (merged_of dfa classes) words states) where
+module _ (dfa : CompleteDfa) (classes : List ℕ) (of : AreClassesOf dfa classes) (words : List (List ℕ)) (states : List ℕ)
+    (f : AreAllFound (merged_of dfa classes) words states) where
   -- the states that are found are states
   pub states-below : All (λ q. q < dfa.states) states
   states-below k d l =
@@ -74,7 +83,8 @@ module _ (dfa : CompleteDfa) (classes : List ℕ) (of : AreClassesOf dfa classes
       let s = state-at dfa classes of words states (states-of-found dfa classes of f.done 0 words states f.found) k (omega arith) in
       subst (λ q. q < dfa.states) (get_or_default states k 0 d l) s.2
 
-  module _ (alphabet : DistributedAlphabet) (same : alphabet ≡ dfa.alphabet) (accepting : List Bool) (answers : accepting ≡ map (accepts_at dfa) states) (targets : List ℕ)
+  module _ (alphabet : DistributedAlphabet) (same : alphabet ≡ dfa.alphabet) (accepting : List Bool) (answers : accepting ≡ map (accepts_at dfa) states)
+      (targets : List ℕ)
       (each : AreTargets (merged_of dfa classes) words (length words * length dfa.alphabet.letters) targets) where
     letters-same : length alphabet.letters ≡ length dfa.alphabet.letters
     letters-same = ap (λ a. length a.letters) same
@@ -115,12 +125,14 @@ module _ (dfa : CompleteDfa) (classes : List ℕ) (of : AreClassesOf dfa classes
               let at : a < length alphabet.letters = let am : a < length dfa.alphabet.letters = al in omega arith in
               let here : (nat_lt k (length accepting) && nat_lt a (length alphabet.letters)) ≡ true = grind (arith, nat_tests) in
               let is : step_of (table_with alphabet 0 accepting targets) k a ≡ slice_index targets (k * m + a) =
-              ap (λ known. cond known (target_at (table_with alphabet 0 accepting targets) k a) k) here ∙ ap (λ n. slice_index targets (k * n + a)) letters-same in
+              ap (λ known. cond known (target_at (table_with alphabet 0 accepting targets) k a) k) here
+              ∙ ap (λ n. slice_index targets (k * n + a)) letters-same in
               let cell = mul-add-lt k m a (length words) kl al in
               let t = each.each (k * m + a) (omega arith) in
               let t' = rw (div-mul-add k m a al, mod-mul-add k m a al) at t in
               subst (λ x. IsTarget (merged_of dfa classes) words k a x) (sym is) t';
           accepts = λ k kl.
               let ks : k < length states = let l = states-long (merged_of dfa classes) words states f in omega arith in
-              ap (λ xs. Rattle.std.specs.Prelude.slice_index_or xs k false) answers ∙ get_or-map (accepts_at dfa) states k 0 false ks ∙ ap (accepts_at dfa) (state-is (merged_of dfa classes) words states f k kl);
+              ap (λ xs. Rattle.std.specs.Prelude.slice_index_or xs k false) answers ∙ get_or-map (accepts_at dfa) states k 0 false ks
+              ∙ ap (accepts_at dfa) (state-is (merged_of dfa classes) words states f k kl);
         }

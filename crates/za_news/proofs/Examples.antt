@@ -6,7 +6,7 @@ use Rattle.za_text.specs.declared.kind.Kind.TheVariants.{Cut, OutOfOrder, WordCo
 use Rattle.za_alpha.specs.Procs.{members_below}
 use Rattle.za_lang.specs.Tests.{new_row_fault}
 use Rattle.za_lang.specs.Documents.{said, line_fault}
-use Rattle.za_news.specs.Grammar.{reading_fault}
+use Rattle.za_news.specs.Grammar.{read_line_kind}
 use Rattle.za_news.specs.NewsTexts.{news_fault, news_job, news_readings}
 use Rattle.za_news.specs.Texts.{news_text}
 
@@ -18,14 +18,15 @@ with_readings : List ℕ
 with_readings = two ++ codes "readings\nread left 10 20 30\n# five\nread right 5\nend\n"
 
 right : news_fault with_readings ≡ None
-unfolding two with_readings said line_fault new_row_fault members_below reading_fault
+unfolding two with_readings said line_fault new_row_fault members_below read_line_kind
 right = refl
 
 readings_gathered : news_readings with_readings ≡ (10 ∷ 20 ∷ 30 ∷ []) ∷ (5 ∷ []) ∷ []
 unfolding two with_readings said
 readings_gathered = refl
 
-news_told : news_text (news_job with_readings) (news_readings with_readings) ≡ text_of ((codes "known" ∷ codes "left" ∷ decimal 30 ∷ decimal 20 ∷ []) ∷ (codes "known" ∷ codes "right" ∷ decimal 20 ∷ decimal 20 ∷ []) ∷ [])
+news_told : news_text (news_job with_readings) (news_readings with_readings)
+    ≡ text_of ((codes "known" ∷ codes "left" ∷ decimal 30 ∷ decimal 20 ∷ []) ∷ (codes "known" ∷ codes "right" ∷ decimal 20 ∷ decimal 20 ∷ []) ∷ [])
 unfolding two with_readings said members_below
 news_told = refl
 
@@ -40,7 +41,7 @@ unfolding two said line_fault new_row_fault members_below
 not_divided = refl
 
 no_process : news_fault (two ++ codes "readings\nread both 1\nend\n") ≡ Some (record { line = 19; kind = NoSuchProcess })
-unfolding two said line_fault new_row_fault members_below reading_fault
+unfolding two said line_fault new_row_fault members_below read_line_kind
 no_process = refl
 
 -- the document is refused first
@@ -55,26 +56,26 @@ divided_cut = refl
 
 -- only the first such line divides it
 divided_twice : news_fault (two ++ codes "readings\nreadings\n") ≡ Some (record { line = 19; kind = OutOfOrder })
-unfolding two said line_fault new_row_fault members_below reading_fault
+unfolding two said line_fault new_row_fault members_below read_line_kind
 divided_twice = refl
 
 -- the process is tested before the numbers
 process_first : news_fault (two ++ codes "readings\nread 2 x\n") ≡ Some (record { line = 19; kind = NoSuchProcess })
-unfolding two said line_fault new_row_fault members_below reading_fault
+unfolding two said line_fault new_row_fault members_below read_line_kind
 process_first = refl
 
 bad_number : news_fault (two ++ codes "readings\nread left 1 x 01\n") ≡ Some (record { line = 19; kind = BadNumber })
-unfolding two said line_fault new_row_fault members_below reading_fault
+unfolding two said line_fault new_row_fault members_below read_line_kind
 bad_number = refl
 
 word_count : news_fault (two ++ codes "readings\nread\n") ≡ Some (record { line = 19; kind = WordCount })
-unfolding two said line_fault new_row_fault members_below reading_fault
+unfolding two said line_fault new_row_fault members_below read_line_kind
 word_count = refl
 
 trailing : news_fault (two ++ codes "readings\nend\n\nend\n") ≡ Some (record { line = 21; kind = Trailing })
-unfolding two said line_fault new_row_fault members_below reading_fault
+unfolding two said line_fault new_row_fault members_below read_line_kind
 trailing = refl
 
 no_end : news_fault (two ++ codes "readings\nread left 1\n\n") ≡ Some (record { line = 21; kind = NoEnd })
-unfolding two said line_fault new_row_fault members_below reading_fault
+unfolding two said line_fault new_row_fault members_below read_line_kind
 no_end = refl

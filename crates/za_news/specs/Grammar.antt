@@ -62,13 +62,13 @@ readings_said version names lines = map (numbers_in version names lines) (range_
 
 -- The tests of a line.
 
-abbrev pub number_fault : Option ℕ → Option Kind
-number_fault None = Some BadNumber
-number_fault (Some n) = None
+abbrev pub word_fault : Option ℕ → Option Kind
+word_fault None = Some BadNumber
+word_fault (Some n) = None
 
 abbrev pub numbers_fault : List (List ℕ) → Option Kind
 numbers_fault [] = None
-numbers_fault (word ∷ words) = option_or (number_fault (numeral_value word)) (numbers_fault words)
+numbers_fault (word ∷ words) = option_or (word_fault (numeral_value word)) (numbers_fault words)
 
 -- a process by its name, and then numbers
 abbrev pub read_line_fault : List (List ℕ) → List (List ℕ) → Option Kind
@@ -88,8 +88,8 @@ all_words_fault names place [] = None
 all_words_fault names place (word ∷ words) = reading_words_fault names place (reading_head word) words
 
 -- the first test of a line that fails
-unfoldable pub reading_fault : Version → List (List ℕ) → Place → RawLine → Option Kind
-reading_fault version names place line =
+unfoldable pub read_line_kind : Version → List (List ℕ) → Place → RawLine → Option Kind
+read_line_kind version names place line =
     if not line.whole then Some Cut
     else (if not (list_all is_allowed line.text) then Some BadByte
     else all_words_fault names place (words_in version line))
@@ -103,5 +103,5 @@ reading_end_fault AtReadings n = Some (next_fault n NoEnd)
 abbrev pub reading_faults : Version → List (List ℕ) → Place → ℕ → List RawLine → Option TextFault
 reading_faults version names place n [] = reading_end_fault place n
 reading_faults version names place n (line ∷ lines) =
-    option_or (option_map (next_fault n) (reading_fault version names place line))
+    option_or (option_map (next_fault n) (read_line_kind version names place line))
     (reading_faults version names (reading_place_by place (words_in version line)) (n + 1) lines)

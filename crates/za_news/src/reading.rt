@@ -5,7 +5,7 @@ ghost use Rattle.za_lang.specs.Documents.{words_in};
 ghost use Rattle.za_lang.specs.Jobs.{IsJob};
 ghost use Rattle.za_lang.specs.Gathering.{IsWrong};
 ghost use Rattle.za_news.specs.Readings.{list_of};
-ghost use Rattle.za_news.specs.Grammar.{numbers_by, numbers_said, reading_fault, reading_faults, reading_place_by};
+ghost use Rattle.za_news.specs.Grammar.{numbers_by, numbers_said, read_line_kind, reading_faults, reading_place_by};
 ghost use Rattle.za_news.specs.Grammar.{reading_words_fault, next_reading_place, readings_said};
 ghost use Rattle.za_news.specs.NewsTexts.{news_fault, news_job, news_readings};
 ghost use Rattle.za_news.specs.declared.order.Place.TheVariants.{AtReadings};
@@ -71,12 +71,12 @@ impl Reading {
     }
 
     /// Takes what a line says, or tells its first test that fails.
-    #[tactic(auto, unfolding(crate::specs::Grammar::reading_fault))]
+    #[tactic(auto, unfolding(crate::specs::Grammar::read_line_kind))]
     fn take(&mut self, version: Version, names: &Names, line: &Line) -> Result<(), Refusal>
         requires { length self.old.readings ≡ length names.now }
         ensures size { OnOk result (length self.new.readings ≡ length names.now) }
         ensures taken { let words = words_in version (raw line.now) in
-            let fault = reading_fault version names.now self.old.place (raw line.now) in
+            let fault = read_line_kind version names.now self.old.place (raw line.now) in
             MatchResult result
             (λ _. (fault ≡ None) × (self.new.place ≡ reading_place_by self.old.place words)
             × ((q : ℕ) → list_of self.new.readings q

@@ -51,7 +51,8 @@ module _ (who : ℕ → List ℕ) where
   -- where the view of p has an event of q, there is a latest
   pub primary-some : (n p q i : ℕ) → in_view who n (p ∷ []) i ≡ true → has (who i) q ≡ true → (e : ℕ) × (primary who n p q ≡ Some e)
   primary-some n p q i v t =
-      greatest-some (λ j. in_view who n (p ∷ []) j && has (who j) q) n i (view-below who n (p ∷ []) i v) (and_from (in_view who n (p ∷ []) i) (has (who i) q) v t)
+      greatest-some (λ j. in_view who n (p ∷ []) j && has (who j) q) n i (view-below who n (p ∷ []) i v)
+      (and_from (in_view who n (p ∷ []) i) (has (who i) q) v t)
 
   -- the same of the last event in a past
   pub last_in_past-sound : (f r e : ℕ) → last_in_past who f r ≡ Some e → IsLastInPast who f r e
@@ -92,7 +93,8 @@ module _ (who : ℕ → List ℕ) where
   -- and back
   pub tertiary-complete : (n p q r s e : ℕ) → IsThirdStep who n p q r s e → tertiary who n p q r s ≡ Some e
   tertiary-complete n p q r s e t =
-      some-then (λ g. last_in_past who g s) (secondary who n p q r) t.event e (secondary-complete n p q r t.event t.second) (last_in_past-complete t.event s e t.past)
+      some-then (λ g. last_in_past who g s) (secondary who n p q r) t.event e (secondary-complete n p q r t.event t.second)
+      (last_in_past-complete t.event s e t.past)
 
   -- entries have happened
   pub primary-below : (n p q e : ℕ) → IsLatest who n p q e → e < n

@@ -1,5 +1,6 @@
 -- Equivalent words have the same views, entries, labels and numbers, up to matches.
-use Rattle.std.proofs.Common.{◌≡◌, ℕ, zero, suc, ◌<◌, ◌≤◌, true, inl, inr, List, [], ◌∷◌, length, slice_index, Option, Some, None, refl, sym, ap, subst, ◌∙◌, arith}
+use Rattle.std.proofs.Common.{◌≡◌, ℕ, zero, suc, ◌<◌, ◌≤◌, true, inl, inr, List, [], ◌∷◌, length, slice_index, Option, Some, None, refl, sym, ap, subst, ◌∙◌}
+use Rattle.std.proofs.Common.{arith}
 use Rattle.std.proofs.lemmas.Bool.{cases_eq, cases_order}
 use Rattle.std.proofs.Math.Path.{fun_ext}
 use Rattle.za_alpha.specs.Words.{has, AreEquivalent}
@@ -14,7 +15,8 @@ use Rattle.za_order.proofs.Sets.{single-has, same-test}
 use Rattle.za_order.proofs.Participants.{IsOver, word-over}
 use Rattle.za_order.proofs.Chains.{chain-le}
 use Rattle.za_order.proofs.Views.{view-below}
-use Rattle.za_order.proofs.Entries.{IsLatest, IsLastInPast, IsSecondStep, IsThirdStep, primary-sound, primary-complete, secondary-sound, secondary-complete, tertiary-sound, tertiary-complete, tertiary-below}
+use Rattle.za_order.proofs.Entries.{IsLatest, IsLastInPast, IsSecondStep, IsThirdStep, primary-sound, primary-complete, secondary-sound, secondary-complete}
+use Rattle.za_order.proofs.Entries.{tertiary-sound, tertiary-complete, tertiary-below}
 use Rattle.za_order.proofs.Labels.{least_participant-takes, label-free, label-least}
 use Rattle.za_order.proofs.Matches.{IsPair, from-match, to-match, flip, pair-has, pair-found, pair-less, pair-one, pair-chain, pair-view}
 
@@ -137,7 +139,8 @@ module _ (loc : ℕ → List ℕ) where
         in_u = omega arith;
         in_v = omega arith;
         forth = λ a b k t l. pair-less loc u v a b i j x eq k m t h l;
-        back = λ a b k t l. pair-less loc v u b a j i x (flip-equivalent u v eq) (flip u v a b k) (flip u v i j m) (pair-has loc u v a b x k t) (pair-has loc u v i j x m h) l;
+        back = λ a b k t l. pair-less loc v u b a j i x (flip-equivalent u v eq) (flip u v a b k) (flip u v i j m) (pair-has loc u v a b x k t)
+            (pair-has loc u v i j x m h) l;
       }
 
   -- by induction on a bound b of the position
@@ -235,10 +238,12 @@ tertiary_entries_agree loc u v p q r s eq =
 -- with one more than the position as bound
 pub labels_agree : LabelsAgree
 labels_agree loc letters processes u v i j alphabet wu wv e m =
-    pair-label loc letters processes u v (word-over loc letters processes u alphabet wu) (word-over loc letters processes v alphabet wv) e (suc i) i j (omega arith) (from-match u v i j m)
+    pair-label loc letters processes u v (word-over loc letters processes u alphabet wu) (word-over loc letters processes v alphabet wv) e (suc i) i j
+    (omega arith) (from-match u v i j m)
 
 -- entries that match have one number
-same-number : (loc : ℕ → List ℕ) (processes : ℕ) (u v : List ℕ) (o o' : Option ℕ) → ((i j : ℕ) → IsMatch u v i j → label loc processes u i ≡ label loc processes v j) →
+same-number : (loc : ℕ → List ℕ) (processes : ℕ) (u v : List ℕ) (o o' : Option ℕ) →
+    ((i j : ℕ) → IsMatch u v i j → label loc processes u i ≡ label loc processes v j) →
     AreMatched u v o o' → number loc processes u o ≡ number loc processes v o'
 same-number loc processes u v None None same m = refl
 same-number loc processes u v None (Some j) same m = absurd m
@@ -247,7 +252,8 @@ same-number loc processes u v (Some i) (Some j) same m =
     ap (λ a. number_of processes a (label loc processes u i)) m.same_letter ∙ ap (λ k. number_of processes (slice_index v j) k) (same i j m)
 
 -- numbers that agree at all processes are the same
-pub same-ids : (a b : Ids) → ((q : ℕ) → a.primary q ≡ b.primary q) → ((q r : ℕ) → a.secondary q r ≡ b.secondary q r) → ((q r s : ℕ) → a.tertiary q r s ≡ b.tertiary q r s) → a ≡ b
+pub same-ids : (a b : Ids) → ((q : ℕ) → a.primary q ≡ b.primary q) → ((q r : ℕ) → a.secondary q r ≡ b.secondary q r) →
+    ((q r s : ℕ) → a.tertiary q r s ≡ b.tertiary q r s) → a ≡ b
 same-ids a b f g h =
     ap (λ x. record a { primary = x }) (fun_ext f)
     ∙ ap (λ x. record { primary = b.primary; secondary = x; tertiary = a.tertiary }) (fun_ext (λ q. fun_ext (g q)))
@@ -261,4 +267,5 @@ ids_agree loc letters processes u v p alphabet wu wv e =
     same-ids (ids loc processes u (length u) p) (ids loc processes v (length v) p)
     (λ q. same (primary (participants loc u) (length u) p q) (primary (participants loc v) (length v) p q) (primary_entries_agree loc u v p q e))
     (λ q r. same (secondary (participants loc u) (length u) p q r) (secondary (participants loc v) (length v) p q r) (secondary_entries_agree loc u v p q r e))
-    (λ q r s. same (tertiary (participants loc u) (length u) p q r s) (tertiary (participants loc v) (length v) p q r s) (tertiary_entries_agree loc u v p q r s e))
+    (λ q r s. same (tertiary (participants loc u) (length u) p q r s) (tertiary (participants loc v) (length v) p q r s)
+    (tertiary_entries_agree loc u v p q r s e))

@@ -1,5 +1,6 @@
 -- Labels are free, least and bounded, and tell the secondary entries of one letter apart.
-use Rattle.std.proofs.Common.{◌≡◌, ◌≢◌, ℕ, zero, suc, ◌*◌, ◌<◌, ◌≤◌, true, inl, inr, List, [], ◌∷◌, ◌==◌, length, slice_index, filter_map, flat_map, map, Some, refl, sym, subst, ◌∙◌, arith, eq-eqb, eqb-true, length-append}
+use Rattle.std.proofs.Common.{◌≡◌, ◌≢◌, ℕ, zero, suc, ◌*◌, ◌<◌, ◌≤◌, true, inl, inr, List, [], ◌∷◌, ◌==◌, length, slice_index, filter_map, flat_map, map, Some}
+use Rattle.std.proofs.Common.{refl, sym, subst, ◌∙◌, arith, eq-eqb, eqb-true, length-append}
 use Rattle.std.specs.List.{range_with_len}
 use Rattle.std.proofs.Math.Seq.{get_or-append_seam}
 use Rattle.std.proofs.lemmas.List.{get_or_append_left, length-map}
@@ -32,7 +33,8 @@ module _ (who : ℕ → List ℕ) (processes n p : ℕ) where
       (q.0, r.0, s.0, is_event-some (tertiary who n p q.0 r.0 s.0) e s.2)
 
   -- and each that is of processes in range
-  tertiary-listed : (q r s e : ℕ) → q < processes → r < processes → s < processes → tertiary who n p q r s ≡ Some e → has (tertiary_entries who processes n p) e ≡ true
+  tertiary-listed : (q r s e : ℕ) → q < processes → r < processes → s < processes → tertiary who n p q r s ≡ Some e →
+      has (tertiary_entries who processes n p) e ≡ true
   tertiary-listed q r s e lq lr ls h =
       let range = range_with_len 0 processes in
       let third : ℕ → ℕ → List ℕ = λ q r. filter_map (λ s. tertiary who n p q r s) range in
@@ -86,7 +88,8 @@ module _ (loc : ℕ → List ℕ) (processes : ℕ) (w : List ℕ) where
   label-differs n j l h e =
       let old : ℕ → ℕ = λ k. slice_index (labels loc processes w n) k in
       let same : old j ≡ least_free (taken n) = label-kept n j l ∙ e ∙ label-next n in
-      let yes = has-map old (rivals loc processes w n) (least_free (taken n)) ∙ any-here (λ k. old k == least_free (taken n)) (rivals loc processes w n) j h (eq-eqb (old j) (least_free (taken n)) same) in
+      let yes = has-map old (rivals loc processes w n) (least_free (taken n))
+      ∙ any-here (λ k. old k == least_free (taken n)) (rivals loc processes w n) j h (eq-eqb (old j) (least_free (taken n)) same) in
       let no = least_free-free (taken n) in
       cc
 
@@ -111,7 +114,8 @@ module _ (loc : ℕ → List ℕ) (processes : ℕ) (w : List ℕ) where
       let x : ℕ = least_participant loc processes w i in
       let old : ℕ → ℕ = λ j. slice_index (labels loc processes w i) j in
       let n = label-next i in
-      let m = any-where (λ j. old j == k) (rivals loc processes w i) (sym (has-map old (rivals loc processes w i) k) ∙ least_free-least (taken i) k (omega arith)) in
+      let m = any-where (λ j. old j == k) (rivals loc processes w i)
+      (sym (has-map old (rivals loc processes w i) k) ∙ least_free-least (taken i) k (omega arith)) in
       let f = and_parts (slice_index w m.0 == slice_index w i) (has (tertiary_entries who processes i x) m.0)
       (sym (has-filter (λ j. slice_index w j == slice_index w i) (tertiary_entries who processes i x) m.0) ∙ m.1) in
       let t = listed-tertiary who processes i x m.0 f.1 in
@@ -128,7 +132,8 @@ module _ (loc : ℕ → List ℕ) (letters processes : ℕ) (w : List ℕ) (over
       least-true (λ p. has (participants loc w i) p) processes (omega arith)
 
   -- a tertiary entry of the event's letter is a rival
-  tertiary-rival : (i x q r s e : ℕ) → i < length w → x ≡ least_participant loc processes w i → IsThirdStep (participants loc w) i x q r s e → tertiary (participants loc w) i x q r s ≡ Some e →
+  tertiary-rival : (i x q r s e : ℕ) → i < length w → x ≡ least_participant loc processes w i → IsThirdStep (participants loc w) i x q r s e →
+      tertiary (participants loc w) i x q r s ≡ Some e →
       slice_index w e ≡ slice_index w i → has (rivals loc processes w i) e ≡ true
   tertiary-rival i x q r s e l isx t h same =
       let who = participants loc w in
@@ -136,10 +141,12 @@ module _ (loc : ℕ → List ℕ) (letters processes : ℕ) (w : List ℕ) (over
       let b = secondary-below who i x q r t.event t.second in
       let c = tertiary-below who i x q r s e t in
       has-filter (λ j. slice_index w j == slice_index w i) (tertiary_entries who processes i (least_participant loc processes w i)) e
-      ∙ and_from (slice_index w e == slice_index w i) (has (tertiary_entries who processes i (least_participant loc processes w i)) e) (eq-eqb (slice_index w e) (slice_index w i) same)
+      ∙ and_from (slice_index w e == slice_index w i) (has (tertiary_entries who processes i (least_participant loc processes w i)) e)
+      (eq-eqb (slice_index w e) (slice_index w i) same)
       (subst (λ y. has (tertiary_entries who processes i y) e ≡ true) isx
       (tertiary-listed who processes i x q r s e
-      (over.below t.second.event q (omega arith) t.second.first.takes) (over.below t.event r (omega arith) t.second.past.takes) (over.below e s (omega arith) t.past.takes) h))
+      (over.below t.second.event q (omega arith) t.second.first.takes) (over.below t.event r (omega arith) t.second.past.takes)
+      (over.below e s (omega arith) t.past.takes) h))
 
   -- the label is none of a tertiary entry of its letter
   pub label-free : (i e : ℕ) → i < length w → IsTertiary (participants loc w) i (least_participant loc processes w i) e → slice_index w e ≡ slice_index w i →

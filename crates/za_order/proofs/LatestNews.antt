@@ -87,7 +87,8 @@ module _ (who : ℕ → List ℕ) (n : ℕ) where
       elim (option-cases (primary who n y q)) [
         | inl none ↦ keep (λ e l. let c : None ≡ Some e = sym none ∙ l in cc)
         | inr one ↦ elim (cases_Bool (in_view who n (rest.0 ∷ []) one.0)) [
-          | inl seen ↦ keep (λ e l. let c : Some one.0 ≡ Some e = sym one.1 ∙ l in let same : one.0 ≡ e = cc in subst (λ v. in_view who n (rest.0 ∷ []) v ≡ true) same seen)
+          | inl seen ↦ keep (λ e l. let c : Some one.0 ≡ Some e = sym one.1 ∙ l in let same : one.0 ≡ e = cc in
+              subst (λ v. in_view who n (rest.0 ∷ []) v ≡ true) same seen)
           | inr miss ↦ (y, newest-moves (z ∷ zs) y (y ∷ (z ∷ zs)) q rest.0 one.0 more rest.1 one.1 miss)
         ]
       ]

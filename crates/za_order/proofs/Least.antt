@@ -1,6 +1,7 @@
 -- The least number that is not in a list.
 use Rattle.std.proofs.Math.Nat.{pow-zero}
-use Rattle.std.proofs.Common.{pow-suc, ◌≡◌, ℕ, zero, suc, ◌*◌, ◌^◌, ◌<◌, ◌≤◌, true, false, not, inl, inr, List, [], ◌∷◌, ◌==◌, length, filter, filter_map, flat_map, Option, Some, None, sym, ◌∙◌, arith, eq-eqb, ne_eqb, length-append}
+use Rattle.std.proofs.Common.{pow-suc, ◌≡◌, ℕ, zero, suc, ◌*◌, ◌^◌, ◌<◌, ◌≤◌, true, false, not, inl, inr, List, [], ◌∷◌, ◌==◌, length, filter, filter_map}
+use Rattle.std.proofs.Common.{flat_map, Option, Some, None, sym, ◌∙◌, arith, eq-eqb, ne_eqb, length-append}
 use Rattle.std.specs.List.{cons_option}
 use Rattle.std.proofs.lemmas.Bool.{cond_both, and_from, not-false, not-true, not_from_false}
 use Rattle.std.proofs.lemmas.List.Sums.{length-filter, count_by-le-length}

@@ -1,5 +1,6 @@
 -- The events of equivalent words that match, and their order.
-use Rattle.std.proofs.Common.{◌≡◌, ℕ, ◌<◌, ◌≤◌, Bool, true, inl, inr, List, ◌==◌, length, take, filter, slice_index, refl, sym, ap, subst, ◌∙◌, arith, eqb-true, eq-eqb}
+use Rattle.std.proofs.Common.{◌≡◌, ℕ, ◌<◌, ◌≤◌, Bool, true, inl, inr, List, ◌==◌, length, take, filter, slice_index, refl, sym, ap, subst, ◌∙◌, arith, eqb-true}
+use Rattle.std.proofs.Common.{eq-eqb}
 use Rattle.std.proofs.lemmas.Bool.{cases_lt, cases_order}
 use Rattle.std.proofs.lemmas.List.Sums.{length-filter}
 use Rattle.za_alpha.specs.Words.{has, AreEquivalent}
@@ -130,7 +131,8 @@ module _ (loc : ℕ → List ℕ) where
       ]
 
   -- matches keep chains
-  pub pair-chain : (u v : List ℕ) {i k : ℕ} (j l : ℕ) → AreEquivalent loc u v → Chain (participants loc u) i k → IsPair u v i j → IsPair u v k l → Chain (participants loc v) j l
+  pub pair-chain : (u v : List ℕ) {i k : ℕ} (j l : ℕ) → AreEquivalent loc u v → Chain (participants loc u) i k → IsPair u v i j → IsPair u v k l →
+      Chain (participants loc v) j l
   pair-chain u v {i} j l e Here a b = subst (λ x. Chain (participants loc v) j x) (pair-one u v i j l a b) Here
   pair-chain u v j l e (Then {j = m} {k = k} p c lt hm hk) a b =
       let bound = b.in_u in

@@ -28,10 +28,12 @@ module _ (who : ℕ → List ℕ) (n p : ℕ) where
             ∙ sym one.1
       ]
 
-  pub secondary-newest : (q r b : ℕ) → has (who n) p ≡ true → has (who n) q ≡ false → IsNewest who n (who n) q b → secondary who (suc n) p q r ≡ secondary who n b q r
+  pub secondary-newest : (q r b : ℕ) → has (who n) p ≡ true → has (who n) q ≡ false → IsNewest who n (who n) q b →
+      secondary who (suc n) p q r ≡ secondary who n b q r
   secondary-newest q r b a other k = ap (λ o. option_and_then (λ e. last_in_past who e r) o) (primary-newest q b a other k)
 
-  pub tertiary-newest : (q r s b : ℕ) → has (who n) p ≡ true → has (who n) q ≡ false → IsNewest who n (who n) q b → tertiary who (suc n) p q r s ≡ tertiary who n b q r s
+  pub tertiary-newest : (q r s b : ℕ) → has (who n) p ≡ true → has (who n) q ≡ false → IsNewest who n (who n) q b →
+      tertiary who (suc n) p q r s ≡ tertiary who n b q r s
   tertiary-newest q r s b a other k = ap (λ o. option_and_then (λ e. last_in_past who e s) o) (secondary-newest q r b a other k)
 
   -- the past of the event is what its participants know

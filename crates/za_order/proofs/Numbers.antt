@@ -85,7 +85,8 @@ numbers_tell_apart loc letters processes w n p q r u s t alphabet word l h =
         | inl empty ↦ absurd (number-some loc processes w e.0 (sym (ap (number loc processes w) e.1) ∙ h ∙ ap (number loc processes w) empty))
         | inr f ↦
             let same = number-tells loc letters processes w (word-over loc letters processes w alphabet word) n p q r u s t e.0 f.0 l
-            (secondary-sound who n p q r e.0 e.1) (secondary-sound who n u s t f.0 f.1) (sym (ap (number loc processes w) e.1) ∙ h ∙ ap (number loc processes w) f.1) in
+            (secondary-sound who n p q r e.0 e.1) (secondary-sound who n u s t f.0 f.1)
+            (sym (ap (number loc processes w) e.1) ∙ h ∙ ap (number loc processes w) f.1) in
             e.1 ∙ ap (λ v. Some v) same ∙ sym f.1
       ]
     ]

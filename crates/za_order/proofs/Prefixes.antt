@@ -1,5 +1,6 @@
 -- Words that agree at the first places have the same views, entries and labels there.
-use Rattle.std.proofs.Common.{◌≡◌, ℕ, zero, suc, ◌<◌, ◌≤◌, Bool, ◌&&◌, inl, inr, List, [], ◌∷◌, ◌++◌, length, slice_index, Option, Some, None, option_and_then, refl, sym, ap, subst, ◌∙◌, arith}
+use Rattle.std.proofs.Common.{◌≡◌, ℕ, zero, suc, ◌<◌, ◌≤◌, Bool, ◌&&◌, inl, inr, List, [], ◌∷◌, ◌++◌, length, slice_index, Option, Some, None, option_and_then}
+use Rattle.std.proofs.Common.{refl, sym, ap, subst, ◌∙◌, arith}
 use Rattle.std.proofs.lemmas.Bool.{cases_order}
 use Rattle.za_alpha.specs.Words.{has}
 use Rattle.za_alpha.specs.Search.{least}
@@ -90,7 +91,8 @@ module _ (loc : ℕ → List ℕ) (letters processes : ℕ) where
   labels-below n u v zero i a l m = absurd (omega arith)
   labels-below n u v (suc b) i a l m =
       let earlier : (j : ℕ) → j < i → label loc processes u j ≡ label loc processes v j = λ j k. labels-below n u v b j a (omega arith) (omega arith) in
-      let back : Agree loc letters processes n v u = record { first = a.second; second = a.first; in_first = a.in_second; in_second = a.in_first; same = λ j k. sym (a.same j k) } in
+      let back : Agree loc letters processes n v u =
+      record { first = a.second; second = a.first; in_first = a.in_second; in_second = a.in_first; same = λ j k. sym (a.same j k) } in
       elim (cases_order (label loc processes u i) (label loc processes v i)) [
         | inl same ↦ same
         | inr (inl less) ↦ absurd (label-not-less n u v i a (omega arith) earlier less)

@@ -33,5 +33,8 @@ module _ (loc : ℕ → List ℕ) (letters processes : ℕ) (w : List ℕ) (over
       let t = tertiary-sound (participants loc w) n p q r s e h in
       let b = tertiary-below (participants loc w) n p q r s e t in
       let c = secondary-below (participants loc w) n p q r t.event t.second in
-      let d = primary-below (participants loc w) n p q t.second.event t.second.first in
-      (over.below t.second.event q (omega arith) t.second.first.takes, over.below t.event r (omega arith) t.second.past.takes, over.below e s (omega arith) t.past.takes)
+      let d = primary-below (participants loc w) n p q t.second.event t.second.first in (
+        over.below t.second.event q (omega arith) t.second.first.takes,
+        over.below t.event r (omega arith) t.second.past.takes,
+        over.below e s (omega arith) t.past.takes,
+      )

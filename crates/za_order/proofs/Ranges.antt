@@ -42,4 +42,5 @@ or-false false = refl
 
 pub any-more : (test : ℕ → Bool) (n : ℕ) → list_any test (range_with_len 0 (n + 1)) ≡ (list_any test (range_with_len 0 n) || test n)
 any-more test n =
-    ap (list_any test) (range-below-more n) ∙ list_any-append test (range_with_len 0 n) (n ∷ []) ∙ ap (λ b. list_any test (range_with_len 0 n) || b) (or-false (test n))
+    ap (list_any test) (range-below-more n) ∙ list_any-append test (range_with_len 0 n) (n ∷ [])
+    ∙ ap (λ b. list_any test (range_with_len 0 n) || b) (or-false (test n))

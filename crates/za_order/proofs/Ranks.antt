@@ -1,5 +1,6 @@
 -- How many letters before a position pass a test.
-use Rattle.std.proofs.Common.{◌≡◌, ℕ, zero, suc, ◌+◌, ◌<◌, ◌≤◌, Bool, true, false, cond, inl, inr, List, [], ◌∷◌, length, take, filter, slice_index, refl, sym, ap, ◌∙◌, arith, length-append, take-suc}
+use Rattle.std.proofs.Common.{◌≡◌, ℕ, zero, suc, ◌+◌, ◌<◌, ◌≤◌, Bool, true, false, cond, inl, inr, List, [], ◌∷◌, length, take, filter, slice_index, refl, sym}
+use Rattle.std.proofs.Common.{ap, ◌∙◌, arith, length-append, take-suc}
 use Rattle.std.proofs.lemmas.Bool.{cases_Bool, cases_eq, cond-true, cond-false}
 use Rattle.std.proofs.lemmas.List.Elements.{filter-append}
 
@@ -61,7 +62,8 @@ rank-take t [] (suc i) = refl
 rank-take t (x ∷ xs) zero = refl
 rank-take t (x ∷ xs) (suc i) =
     let ih = rank-take t xs i in
-    elim (t x) as (λ b. take (length (cond b (x ∷ filter t (take i xs)) (filter t (take i xs)))) (cond b (x ∷ filter t xs) (filter t xs)) ≡ cond b (x ∷ filter t (take i xs)) (filter t (take i xs))) [
+    elim (t x) as (λ b. take (length (cond b (x ∷ filter t (take i xs)) (filter t (take i xs)))) (cond b (x ∷ filter t xs) (filter t xs))
+    ≡ cond b (x ∷ filter t (take i xs)) (filter t (take i xs))) [
       | true ↦ ap (λ v. x ∷ v) ih
       | false ↦ ih
     ]
@@ -92,7 +94,8 @@ rank-find t (x ∷ xs) r l = go (t x) refl (rank-find t xs) r l
     further b j r e k = ap (λ v. length (cond v (x ∷ filter t (take j xs)) (filter t (take j xs)))) e
 
     go : (b : Bool) → t x ≡ b → ((r : ℕ) → r < length (filter t xs) → (j : ℕ) × (j < length xs) × (t (slice_index xs j) ≡ true) × (rank t xs j ≡ r)) →
-        (r : ℕ) → r < length (cond b (x ∷ filter t xs) (filter t xs)) → (j : ℕ) × (j < suc (length xs)) × (t (slice_index (x ∷ xs) j) ≡ true) × (rank t (x ∷ xs) j ≡ r)
+        (r : ℕ) → r < length (cond b (x ∷ filter t xs) (filter t xs)) → (j : ℕ) × (j < suc (length xs)) × (t (slice_index (x ∷ xs) j) ≡ true)
+        × (rank t (x ∷ xs) j ≡ r)
     go true e ih zero m = (0, omega arith, e, refl)
     go true e ih (suc r) m = let k = ih r (omega arith) in (suc k.0, (let a = k.1 in omega arith), k.2, further true k.0 r e k.3 ∙ ap suc k.3)
     go false e ih r m = let k = ih r m in (suc k.0, (let a = k.1 in omega arith), k.2, further false k.0 r e k.3 ∙ k.3)

@@ -1,5 +1,6 @@
 -- The members of a set of processes stand in rising order.
-use Rattle.std.proofs.Common.{◌≡◌, ℕ, zero, suc, ◌+◌, ◌<◌, ◌≤◌, Bool, true, false, ◌==◌, ◌++◌, cond, inl, inr, List, [], ◌∷◌, length, get_or, take, filter, map, refl, sym, ap, subst, ◌∙◌, arith, add-one}
+use Rattle.std.proofs.Common.{◌≡◌, ℕ, zero, suc, ◌+◌, ◌<◌, ◌≤◌, Bool, true, false, ◌==◌, ◌++◌, cond, inl, inr, List, [], ◌∷◌, length, get_or, take, filter, map}
+use Rattle.std.proofs.Common.{refl, sym, ap, subst, ◌∙◌, arith, add-one}
 use Rattle.std.specs.List.{range_with_len}
 use Rattle.std.specs.Int.{bit_at}
 use Rattle.std.proofs.lemmas.Bool.{cases_Bool, cases_eq, cond-true, cond-false, cond_both}
@@ -57,7 +58,8 @@ module _ (test : ℕ → Bool) where
       let rest = filter test (range_with_len (a + 1) n) in
       let r = rising-range (a + 1) n in
       elim (cases_Bool (test a)) [
-        | inl t ↦ subst (λ xs. IsRising xs) (sym (cond-true (test a) (a ∷ rest) rest t)) (rising-cons a rest (λ x h. let l = from-start (a + 1) n x h in omega arith) r)
+        | inl t ↦ subst (λ xs. IsRising xs) (sym (cond-true (test a) (a ∷ rest) rest t))
+            (rising-cons a rest (λ x h. let l = from-start (a + 1) n x h in omega arith) r)
         | inr f ↦ subst (λ xs. IsRising xs) (sym (cond-false (test a) (a ∷ rest) rest f)) r
       ]
 
@@ -99,10 +101,13 @@ pub length-members-le : (s : Procs) (n : ℕ) → n ≤ 16 → ((p : ℕ) → ha
 length-members-le s n l h = let e = ap length (members-fit s n l h) in let k = length-members_below-le s n l in omega arith
 
 -- what a function makes of the members below n + 1, from those below n
-pub map-members-in : {X : Type 0} (f : ℕ → X) (s : Procs) (n : ℕ) → n < 16 → has (members s) n ≡ true → map f (members_below s (n + 1)) ≡ map f (members_below s n) ++ f n ∷ []
+pub map-members-in : {X : Type 0} (f : ℕ → X) (s : Procs) (n : ℕ) → n < 16 → has (members s) n ≡ true →
+    map f (members_below s (n + 1)) ≡ map f (members_below s n) ++ f n ∷ []
 map-members-in f s n l h =
-    ap (map f) (members_below-more s n l ∙ ap (λ xs. members_below s n ++ xs) (cond-true (has (members s) n) (n ∷ []) [] h)) ∙ map-append f (members_below s n) (n ∷ [])
+    ap (map f) (members_below-more s n l ∙ ap (λ xs. members_below s n ++ xs) (cond-true (has (members s) n) (n ∷ []) [] h))
+    ∙ map-append f (members_below s n) (n ∷ [])
 
-pub map-members-out : {X : Type 0} (f : ℕ → X) (s : Procs) (n : ℕ) → n < 16 → has (members s) n ≡ false → map f (members_below s (n + 1)) ≡ map f (members_below s n)
+pub map-members-out : {X : Type 0} (f : ℕ → X) (s : Procs) (n : ℕ) → n < 16 → has (members s) n ≡ false →
+    map f (members_below s (n + 1)) ≡ map f (members_below s n)
 map-members-out f s n l h =
     ap (map f) (members_below-more s n l ∙ ap (λ xs. members_below s n ++ xs) (cond-false (has (members s) n) (n ∷ []) [] h) ∙ append-nil (members_below s n))

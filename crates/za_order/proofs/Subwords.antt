@@ -1,5 +1,6 @@
 -- The subword at a set of positions, split at a down-closed part of it.
-use Rattle.std.proofs.Common.{◌≡◌, ℕ, zero, suc, ◌<◌, Bool, true, false, not, ◌&&◌, inl, inr, List, [], ◌∷◌, ◌++◌, slice_index, refl, sym, ap, ◌∙◌, arith, append_assoc, append-nil}
+use Rattle.std.proofs.Common.{◌≡◌, ℕ, zero, suc, ◌<◌, Bool, true, false, not, ◌&&◌, inl, inr, List, [], ◌∷◌, ◌++◌, slice_index, refl, sym, ap, ◌∙◌, arith}
+use Rattle.std.proofs.Common.{append_assoc, append-nil}
 use Rattle.std.proofs.lemmas.Bool.{cases_Bool, cond-true, cond-false, and_left, and_right, and_from, not_from_true, not_from_false}
 use Rattle.std.proofs.lemmas.List.Elements.{filter-append}
 use Rattle.za_alpha.specs.Words.{has, projection, AreEquivalent}
@@ -22,18 +23,21 @@ module _ (loc : ℕ → List ℕ) (w : List ℕ) where
   projection-skips p test n t = ap (λ x. projection loc p x) (cond-false (test n) (subword w test n ++ slice_index w n ∷ []) (subword w test n) t)
 
   -- nor does one of another process
-  pub projection-others : (p : ℕ) (test : ℕ → Bool) (n : ℕ) → has (participants loc w n) p ≡ false → projection loc p (subword w test (suc n)) ≡ projection loc p (subword w test n)
+  pub projection-others : (p : ℕ) (test : ℕ → Bool) (n : ℕ) → has (participants loc w n) p ≡ false →
+      projection loc p (subword w test (suc n)) ≡ projection loc p (subword w test n)
   projection-others p test n h =
       elim (cases_Bool (test n)) [
         | inl t ↦
             rw (cond-true (test n) (subword w test n ++ slice_index w n ∷ []) (subword w test n) t)
             (filter-append (λ a. has (loc a) p) (subword w test n) (slice_index w n ∷ [])
-            ∙ ap (λ x. projection loc p (subword w test n) ++ x) (cond-false (has (loc (slice_index w n)) p) (slice_index w n ∷ []) [] h) ∙ append-nil (projection loc p (subword w test n)))
+            ∙ ap (λ x. projection loc p (subword w test n) ++ x) (cond-false (has (loc (slice_index w n)) p) (slice_index w n ∷ []) [] h)
+            ∙ append-nil (projection loc p (subword w test n)))
         | inr t ↦ projection-skips p test n t
       ]
 
   -- the projection is empty where none of the events of p passes
-  projection-empty : (p : ℕ) (test : ℕ → Bool) (n : ℕ) → ((i : ℕ) → i < n → has (participants loc w i) p ≡ true → test i ≡ false) → projection loc p (subword w test n) ≡ []
+  projection-empty : (p : ℕ) (test : ℕ → Bool) (n : ℕ) → ((i : ℕ) → i < n → has (participants loc w i) p ≡ true → test i ≡ false) →
+      projection loc p (subword w test n) ≡ []
   projection-empty p test zero h = refl
   projection-empty p test (suc n) h =
       let rest = projection-empty p test n (λ i l t. h i (omega arith) t) in
@@ -43,7 +47,8 @@ module _ (loc : ℕ → List ℕ) (w : List ℕ) where
       ]
 
   -- the projection splits at the part
-  pub projection-split : (a b : ℕ → Bool) → ((i : ℕ) → a i ≡ true → b i ≡ true) → ((i j : ℕ) → b i ≡ true → a j ≡ true → Chain (participants loc w) i j → a i ≡ true) → (p n : ℕ) →
+  pub projection-split : (a b : ℕ → Bool) → ((i : ℕ) → a i ≡ true → b i ≡ true) →
+      ((i j : ℕ) → b i ≡ true → a j ≡ true → Chain (participants loc w) i j → a i ≡ true) → (p n : ℕ) →
       projection loc p (subword w b n) ≡ projection loc p (subword w a n) ++ projection loc p (subword w (λ i. b i && not (a i)) n)
   projection-split a b sub down p zero = refl
   projection-split a b sub down p (suc n) =
@@ -57,7 +62,8 @@ module _ (loc : ℕ → List ℕ) (w : List ℕ) where
               gone a b i (λ bi. down i n bi an (chain-same (participants loc w) p i n (omega arith) h t))) in
               let below = projection-empty p c n (λ i l h.
               gone a b i (λ bi. down i n bi an (chain-same (participants loc w) p i n (omega arith) h t))) in
-              let same : projection loc p (subword w b n) ≡ projection loc p (subword w a n) = ih ∙ ap (λ x. projection loc p (subword w a n) ++ x) below ∙ append-nil (projection loc p (subword w a n)) in
+              let same : projection loc p (subword w b n) ≡ projection loc p (subword w a n) = ih ∙ ap (λ x. projection loc p (subword w a n) ++ x) below
+              ∙ append-nil (projection loc p (subword w a n)) in
               projection-takes p b n (sub n an) t ∙ ap (λ x. x ++ slice_index w n ∷ []) same ∙ sym (projection-takes p a n an t)
               ∙ sym (ap (λ x. projection loc p (subword w a (suc n)) ++ x) nothing ∙ append-nil (projection loc p (subword w a (suc n))))
           | inr an ↦ elim (cases_Bool (b n)) [

@@ -11,7 +11,8 @@ use Rattle.za_order.proofs.Entries.{primary-sound, primary-complete, secondary-s
 use Rattle.za_order.proofs.Maximal.{maximal-primary, known-secondary, secondary-known, secondary-tertiary}
 
 -- what a participant knows after the event, each other knows
-view-after : (who : ℕ → List ℕ) (e p q i : ℕ) → has (who e) p ≡ true → has (who e) q ≡ true → in_view who (suc e) (p ∷ []) i ≡ true → in_view who (suc e) (q ∷ []) i ≡ true
+view-after : (who : ℕ → List ℕ) (e p q i : ℕ) → has (who e) p ≡ true → has (who e) q ≡ true → in_view who (suc e) (p ∷ []) i ≡ true →
+    in_view who (suc e) (q ∷ []) i ≡ true
 view-after who e p q i a b v =
     let r = view-sound who (suc e) (p ∷ []) i v in
     let below = r.below in
@@ -29,7 +30,8 @@ past_is_chains loc letters processes w e i alphabet word l =
 
 -- both ways
 pub participants_agree : ParticipantsAgree
-participants_agree who e p q i a b = same-test (in_view who (suc e) (p ∷ []) i) (in_view who (suc e) (q ∷ []) i) (view-after who e p q i a b) (view-after who e q p i b a)
+participants_agree who e p q i a b =
+    same-test (in_view who (suc e) (p ∷ []) i) (in_view who (suc e) (q ∷ []) i) (view-after who e p q i a b) (view-after who e q p i b a)
 
 -- by the two views in both orders
 pub shared_maximal_is_primary : SharedMaximalIsPrimary

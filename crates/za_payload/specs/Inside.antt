@@ -13,7 +13,7 @@ abbrev pub AreFor : ℕ → List Rows → Type 0
 AreFor processes rows = All (λ (r : Rows). length r.primary ≡ processes) rows
 
 -- all parts are for as many processes
-pub record HasRoomInside (inside : Inside) : Type 0 where
+pub record HasCircleRoom (inside : Inside) : Type 0 where
   pub few : inside.processes ≤ most_processes
   pub rows : length inside.rows.items ≡ inside.processes
   pub rows_for : AreFor inside.processes inside.rows.items

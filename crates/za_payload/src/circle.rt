@@ -31,11 +31,11 @@ impl Model for Circle {
 
     ghost Value = { CircleState };
 
-    ghost use Rattle.za_payload.specs.Inside.{circle_in, HasRoomInside};
+    ghost use Rattle.za_payload.specs.Inside.{circle_in, HasCircleRoom};
 
     ghost view = { circle_in };
 
-    ghost invariant = { HasRoomInside };
+    ghost invariant = { HasCircleRoom };
 }
 
 /// What `n` processes keep before any event.

@@ -1,5 +1,6 @@
 -- Numbers that are printed are read as they are.
-use Rattle.std.proofs.Common.{◌≡◌, ◌∙◌, ap, ℕ, ◌+◌, ◌/◌, ◌%◌, ◌^◌, ◌<◌, ◌≤◌, zero, suc, true, not, List, [], ◌∷◌, ◌++◌, length, get_or, map, refl, le-leb, lit<, arith, inl, inr, Some}
+use Rattle.std.proofs.Common.{◌≡◌, ◌∙◌, ap, ℕ, ◌+◌, ◌/◌, ◌%◌, ◌^◌, ◌<◌, ◌≤◌, zero, suc, true, not, List, [], ◌∷◌, ◌++◌, length, get_or, map, refl, le-leb, lit<}
+use Rattle.std.proofs.Common.{arith, inl, inr, Some}
 use Rattle.std.specs.Prelude.{◌⊎◌}
 use Rattle.std.specs.Prelude.{◌==◌, nat_le, decimal}
 use Rattle.std.specs.List.{list_all, filter_map, AllByRecursion}
@@ -47,7 +48,8 @@ numeral-decimal : (n : ℕ) → n < 2 ^ 32 → is_numeral (decimal n) ≡ true
 numeral-decimal zero h = let e : decimal 0 ≡ 48 ∷ [] = decimal_digit 0 (lit< tt) in rw e
 numeral-decimal (suc n) h =
     let fits : suc n < 2 ^ 64 = omega arith in
-    numeral (decimal (suc n)) (decimal_nonempty (suc n) fits) (length-decimal-le 10 (suc n) (lit< tt) (omega arith) fits) (digits-decimal (suc n) fits) (inl (first_decimal (suc n) (omega arith) fits))
+    numeral (decimal (suc n)) (decimal_nonempty (suc n) fits) (length-decimal-le 10 (suc n) (lit< tt) (omega arith) fits) (digits-decimal (suc n) fits)
+    (inl (first_decimal (suc n) (omega arith) fits))
 
 pub numeral_value-decimal : (n : ℕ) → n < 2 ^ 32 → numeral_value (decimal n) ≡ Some n
 numeral_value-decimal n h =

@@ -1,5 +1,6 @@
 -- What holds of a job's letters, rows, scripts and accepting states.
-use Rattle.std.proofs.Common.{◌≡◌, ◌≢◌, ◌∙◌, ap, sym, subst, ℕ, ◌+◌, ◌*◌, ◌/◌, ◌%◌, ◌<◌, ◌≤◌, ◌^◌, zero, suc, Bool, true, false, ◌&&◌, ◌||◌, List, [], ◌∷◌, ◌++◌, length, refl, append_assoc, length-append, arith, Option, Some, None, inl, inr, eqb-true, eq-eqb, true≢false}
+use Rattle.std.proofs.Common.{◌≡◌, ◌≢◌, ◌∙◌, ap, sym, subst, ℕ, ◌+◌, ◌*◌, ◌/◌, ◌%◌, ◌<◌, ◌≤◌, ◌^◌, zero, suc, Bool, true, false, ◌&&◌, ◌||◌, List, [], ◌∷◌}
+use Rattle.std.proofs.Common.{◌++◌, length, refl, append_assoc, length-append, arith, Option, Some, None, inl, inr, eqb-true, eq-eqb, true≢false}
 use Rattle.std.specs.Prelude.{◌==◌, nat_lt, slice_index_or}
 use Rattle.std.specs.List.{All, filter_map, range_with_len, position_from, cons_option, AllByRecursion}
 use Rattle.std.specs.Str.{bytes_eq}
@@ -59,7 +60,8 @@ found_from (l ∷ ls) k (suc a) apart h =
     ]
 
 pub finds_letters : (alphabet : DistributedAlphabet) → IsDistributed alphabet → Finds alphabet.letters
-finds_letters alphabet whole a h = found_from alphabet.letters 0 a (λ b low e. let same = whole.apart b a (omega arith) h e in omega arith) h ∙ (let z : 0 + a ≡ a = omega arith in ap (λ (n : ℕ). Some n) z)
+finds_letters alphabet whole a h = found_from alphabet.letters 0 a (λ b low e. let same = whole.apart b a (omega arith) h e in omega arith) h
+    ∙ (let z : 0 + a ≡ a = omega arith in ap (λ (n : ℕ). Some n) z)
 
 name_behind : (front ls : List NamedLetter) (l : NamedLetter) → name_at (front ++ l ∷ ls) (length front) ≡ l.name
 name_behind [] ls l = refl
@@ -102,7 +104,8 @@ module _ (v : Version) (alphabet : DistributedAlphabet) (whole : IsDistributed a
       let name : name_at alphabet.letters at ≡ l.name = ap (λ xs. name_at xs at) (sym e) ∙ name_behind front ls l in
       let loc : procs_at alphabet.letters at ≡ l.loc = ap (λ xs. procs_at xs at) (sym e) ∙ procs_behind front ls l in
       let process = whole.located.some at inside in
-      let mine : (p : ℕ) → has (members l.loc) p ≡ true → p < alphabet.processes = λ p k. whole.located.below at p inside (ap (λ s. has (members s) p) loc ∙ k) in (
+      let mine : (p : ℕ) → has (members l.loc) p ≡ true → p < alphabet.processes =
+      λ p k. whole.located.below at p inside (ap (λ s. has (members s) p) loc ∙ k) in (
         record {
           few = omega arith;
           name = subst (λ n. is_name n ≡ true) name (whole.names at inside);
@@ -134,7 +137,8 @@ module _ (lang : PartialDfa) (whole : IsPartial lang) where
       → IsRowOf (record { from = i / length lang.alphabet.letters; letter = record { 0 = i % length lang.alphabet.letters }; to = to })
   row_of_target i to inside e =
       let at = row_of_cell i lang.states (length lang.alphabet.letters) inside in
-      let cell : i / length lang.alphabet.letters * length lang.alphabet.letters + i % length lang.alphabet.letters ≡ i = div-add-mod-is i (length lang.alphabet.letters) in
+      let cell : i / length lang.alphabet.letters * length lang.alphabet.letters + i % length lang.alphabet.letters ≡ i =
+      div-add-mod-is i (length lang.alphabet.letters) in
       record { from = at.0; letter = at.1; to = whole.targets_below i to e; target = ap (λ n. slice_index_or lang.targets n None) cell ∙ e }
 
   same_target : (row : Row) (q a to : ℕ) → IsRowOf row → target_of lang q a ≡ Some to → is_at q a row ≡ true → row.to ≡ to
@@ -166,13 +170,17 @@ module _ (lang : PartialDfa) (whole : IsPartial lang) where
   rows_from front j (suc k) all h = by_target (slice_index_or lang.targets j None) refl (λ fronts more. rows_from fronts (j + 1) k more (omega arith))
     where
       by_target : (o : Option ℕ) → slice_index_or lang.targets j None ≡ o
-          → ((fronts : List Row) → AllByRecursion IsRowOf fronts → AreRows lang.states lang.alphabet.letters fronts (filter_map (printed.row_of_cell lang) (range_with_len (j + 1) k)))
+          → ((fronts : List Row) → AllByRecursion IsRowOf fronts →
+          AreRows lang.states lang.alphabet.letters fronts (filter_map (printed.row_of_cell lang) (range_with_len (j + 1) k)))
           → AreRows lang.states lang.alphabet.letters front (filter_map (printed.row_of_cell lang) (range_with_len j (suc k)))
       by_target None e next = rw e (next front all)
       by_target (Some to) e next =
           let row : Row = record { from = j / length lang.alphabet.letters; letter = record { 0 = j % length lang.alphabet.letters }; to = to } in
           let is : IsRowOf row = row_of_target j to (omega arith) e in
-          rw e (record { from = is.from; letter = is.letter; to = is.to; alone = alone_among front row.from row.letter.0 to all is.target }, next (front ++ row ∷ []) (both_by_one front row all is))
+          rw e (
+            record { from = is.from; letter = is.letter; to = is.to; alone = alone_among front row.from row.letter.0 to all is.target },
+            next (front ++ row ∷ []) (both_by_one front row all is),
+          )
 
   pub rows_fit : AreRows lang.states lang.alphabet.letters [] (table_rows lang)
   rows_fit = rows_from [] 0 (lang.states * length lang.alphabet.letters) tt (omega arith)
@@ -203,7 +211,8 @@ module _ (lang : PartialDfa) (whole : IsPartial lang) where
           ] in
           rw e (rw apart refl)
 
-  same_cell : (i : ℕ) (rest : List Row) (o : Option ℕ) → slice_index_or lang.targets i None ≡ o → target_by rest i ≡ None → target_by (cons_option (printed.row_of_cell lang i) rest) i ≡ o
+  same_cell : (i : ℕ) (rest : List Row) (o : Option ℕ) → slice_index_or lang.targets i None ≡ o → target_by rest i ≡ None →
+      target_by (cons_option (printed.row_of_cell lang i) rest) i ≡ o
   same_cell i rest None e none = rw e none
   same_cell i rest (Some to) e none =
       let m = length lang.alphabet.letters in
@@ -213,24 +222,29 @@ module _ (lang : PartialDfa) (whole : IsPartial lang) where
 
   none_past : (j k i : ℕ) → i < j → target_by (filter_map (printed.row_of_cell lang) (range_with_len j k)) i ≡ None
   none_past j zero i h = refl
-  none_past j (suc k) i h = other_cell j i (filter_map (printed.row_of_cell lang) (range_with_len (j + 1) k)) (λ e. omega arith) ∙ none_past (j + 1) k i (omega arith)
+  none_past j (suc k) i h = other_cell j i (filter_map (printed.row_of_cell lang) (range_with_len (j + 1) k)) (λ e. omega arith)
+      ∙ none_past (j + 1) k i (omega arith)
 
   found_at : (j k i : ℕ) → j ≤ i → i < j + k → target_by (filter_map (printed.row_of_cell lang) (range_with_len j k)) i ≡ slice_index_or lang.targets i None
   found_at j zero i low high = absurd (omega arith)
   found_at j (suc k) i low high =
       elim (cases_eq i j) [
         | inl e ↦
-            subst (λ n. target_by (cons_option (printed.row_of_cell lang n) (filter_map (printed.row_of_cell lang) (range_with_len (j + 1) k))) i ≡ slice_index_or lang.targets i None) e
-            (same_cell i (filter_map (printed.row_of_cell lang) (range_with_len (j + 1) k)) (slice_index_or lang.targets i None) refl (none_past (j + 1) k i (omega arith)))
+            subst (λ n. target_by (cons_option (printed.row_of_cell lang n) (filter_map (printed.row_of_cell lang) (range_with_len (j + 1) k))) i
+            ≡ slice_index_or lang.targets i None) e
+            (same_cell i (filter_map (printed.row_of_cell lang) (range_with_len (j + 1) k)) (slice_index_or lang.targets i None) refl
+            (none_past (j + 1) k i (omega arith)))
         | inr ne ↦
-            other_cell j i (filter_map (printed.row_of_cell lang) (range_with_len (j + 1) k)) (λ e. ne (sym e)) ∙ found_at (j + 1) k i (let w : j + 1 ≤ i = omega arith in w) (omega arith)
+            other_cell j i (filter_map (printed.row_of_cell lang) (range_with_len (j + 1) k)) (λ e. ne (sym e))
+            ∙ found_at (j + 1) k i (let w : j + 1 ≤ i = omega arith in w) (omega arith)
       ]
 
   -- the rows give the targets back
   pub targets_back : cells_of lang.states (length lang.alphabet.letters) (table_rows lang) ≡ lang.targets
   targets_back =
       let n = lang.states * length lang.alphabet.letters in
-      let size : length (cells_of lang.states (length lang.alphabet.letters) (table_rows lang)) ≡ n = length-map-range_with_len (target_by (table_rows lang)) 0 n in
+      let size : length (cells_of lang.states (length lang.alphabet.letters) (table_rows lang)) ≡ n =
+      length-map-range_with_len (target_by (table_rows lang)) 0 n in
       ext_get_or None (cells_of lang.states (length lang.alphabet.letters) (table_rows lang)) lang.targets (size ∙ sym whole.targets_length)
       (λ i h.
       let below : i < n = omega arith in
@@ -260,4 +274,5 @@ module _ (lang : PartialDfa) (whole : IsPartial lang) where
       (λ q h.
       let below : q < n = omega arith in
       let low : nat_lt q n ≡ true = grind (arith, nat_tests) in
-      get_or-map-range_with_len (has (accepting_states lang)) 0 n q q false below (omega arith) ∙ has_accepting q ∙ and_right (is_accepting lang q) (nat_lt q n) low)
+      get_or-map-range_with_len (has (accepting_states lang)) 0 n q q false below (omega arith) ∙ has_accepting q
+      ∙ and_right (is_accepting lang q) (nat_lt q n) low)

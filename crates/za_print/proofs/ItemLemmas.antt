@@ -1,5 +1,6 @@
 -- The items of a script: their letters, and that each is read as it is printed.
-use Rattle.std.proofs.Common.{◌≡◌, ◌∙◌, ap, sym, refl, ℕ, zero, suc, ◌+◌, ◌<◌, ◌≤◌, ◌^◌, Bool, true, false, cond, inl, inr, List, [], ◌∷◌, ◌++◌, length, map, replicate, take, drop, drop-cons, get_or, length-append, arith, add-one, eqb-true, eq-eqb, Option, Some, None}
+use Rattle.std.proofs.Common.{◌≡◌, ◌∙◌, ap, sym, refl, ℕ, zero, suc, ◌+◌, ◌<◌, ◌≤◌, ◌^◌, Bool, true, false, cond, inl, inr, List, [], ◌∷◌, ◌++◌, length, map}
+use Rattle.std.proofs.Common.{replicate, take, drop, drop-cons, get_or, length-append, arith, add-one, eqb-true, eq-eqb, Option, Some, None}
 use Rattle.std.specs.Prelude.{◌==◌, nat_lt, decimal, unwrap_or}
 use Rattle.std.specs.List.{flat_map, prefix_len, AllByRecursion}
 use Rattle.std.specs.Option.{option_or}
@@ -61,7 +62,8 @@ front-some false a w = omega arith
 front-some true a w = let own : (a == a) ≡ true = eq-eqb a a refl in rw own (omega arith)
 
 -- the same of letters of which there is one
-pub runs_by-split : (repeats : Bool) (xs : List ℕ) → 0 < length xs → runs_by repeats xs ≡ run_of_letter (get_or xs 0 0) (item_len repeats xs) ∷ runs_by repeats (drop (item_len repeats xs) xs)
+pub runs_by-split : (repeats : Bool) (xs : List ℕ) → 0 < length xs →
+    runs_by repeats xs ≡ run_of_letter (get_or xs 0 0) (item_len repeats xs) ∷ runs_by repeats (drop (item_len repeats xs) xs)
 runs_by-split repeats [] h = absurd (omega arith)
 runs_by-split repeats (a ∷ w) h = runs_by-front repeats a w
 
@@ -142,7 +144,8 @@ positive_some (suc n) h = refl
 repeated_item : (name : List ℕ) (count : ℕ) → is_name name ≡ true → 0 < count → count < 2 ^ 32 → repeated (name ++ 42 ∷ decimal count) ≡ item_is name count
 repeated_item name count h some few =
     let word = name ++ 42 ∷ decimal count in
-    let at : star_at word ≡ length name = stars_after name (42 ∷ decimal count) (name_bytes name h) ∙ (let z : length name + 0 ≡ length name = omega arith in z) in
+    let at : star_at word ≡ length name = stars_after name (42 ∷ decimal count) (name_bytes name h)
+    ∙ (let z : length name + 0 ≡ length name = omega arith in z) in
     let long = length-append name (42 ∷ decimal count) in
     let yes : nat_lt (length name) (length word) ≡ true = grind (arith, nat_tests) in
     let front : take (length name) word ≡ name = take-append_seam name (42 ∷ decimal count) in
@@ -175,7 +178,8 @@ Finds letters = (a : ℕ) → a < length letters → place_of letters (name_at l
 abbrev pub AreNamed : List NamedLetter → Type 0
 AreNamed letters = (a : ℕ) → a < length letters → is_name (name_at letters a) ≡ true
 
-pub items_right : (v : Version) (letters : List NamedLetter) (process read : ℕ) (rs : List Run) → Finds letters → AreNamed letters → AllByRecursion (RunFits v (StepFits letters process)) rs →
+pub items_right : (v : Version) (letters : List NamedLetter) (process read : ℕ) (rs : List Run) → Finds letters → AreNamed letters →
+    AllByRecursion (RunFits v (StepFits letters process)) rs →
     read + length (expand rs) ≤ most_script_letters → items_fault v letters process read (map (item_word letters) rs) ≡ None
 items_right v letters process read [] finds named h room = refl
 items_right v letters process read (r ∷ rs) finds named h room =
@@ -190,7 +194,8 @@ items_right v letters process read (r ∷ rs) finds named h room =
     let step : Item → Option _ = λ i. option_or (item_fault letters process read i) (items_fault v letters process (read + unwrap_or i.count 0) words) in
     ap step item ∙ (rw (place, own, fits) later)
 
-pub items_said : (v : Version) (letters : List NamedLetter) (process : ℕ) (rs : List Run) → Finds letters → AreNamed letters → AllByRecursion (RunFits v (StepFits letters process)) rs →
+pub items_said : (v : Version) (letters : List NamedLetter) (process : ℕ) (rs : List Run) → Finds letters → AreNamed letters →
+    AllByRecursion (RunFits v (StepFits letters process)) rs →
     length (expand rs) ≤ most_script_letters → letters_of_items v letters (map (item_word letters) rs) ≡ expand rs
 items_said v letters process [] finds named h room = refl
 items_said v letters process (r ∷ rs) finds named h room =
@@ -199,4 +204,5 @@ items_said v letters process (r ∷ rs) finds named h room =
     let item = item_back v letters r (named r.letter h.0.letter.letter) h.0.count (omega arith) in
     let place = finds r.letter h.0.letter.letter in
     let later = items_said v letters process rs finds named h.1 (omega arith) in
-    ap (λ i. item_letters letters i ++ letters_of_items v letters (map (item_word letters) rs)) item ∙ (rw place (ap (λ xs. replicate r.count r.letter ++ xs) later))
+    ap (λ i. item_letters letters i ++ letters_of_items v letters (map (item_word letters) rs)) item
+    ∙ (rw place (ap (λ xs. replicate r.count r.letter ++ xs) later))

@@ -160,7 +160,8 @@ names_inner (b ∷ bs) h =
 pub name_word : (name : List ℕ) → is_name name ≡ true → CanPrint name
 name_word [] h = absurd (cc)
 name_word (b ∷ bs) h =
-    let parts = and_parts (nat_le 1 (length (b ∷ bs)) && nat_le (length (b ∷ bs)) most_name_bytes && not (begins_with_digit (b ∷ bs))) (list_all is_name_byte (b ∷ bs)) h in
+    let parts = and_parts (nat_le 1 (length (b ∷ bs)) && nat_le (length (b ∷ bs)) most_name_bytes && not (begins_with_digit (b ∷ bs)))
+    (list_all is_name_byte (b ∷ bs)) h in
     record { some = omega arith; inner = names_inner (b ∷ bs) parts.1 }
 
 -- a name, a star and a word

@@ -1,5 +1,6 @@
 -- The words for processes, by the version: read as they are printed.
-use Rattle.std.proofs.Common.{◌≡◌, ◌≢◌, ◌∙◌, ap, sym, subst, refl, ℕ, suc, ◌+◌, ◌<◌, ◌≤◌, true, false, inl, inr, List, [], ◌∷◌, ◌++◌, length, map, get_or, append_assoc, length-append, arith, Some, None}
+use Rattle.std.proofs.Common.{◌≡◌, ◌≢◌, ◌∙◌, ap, sym, subst, refl, ℕ, suc, ◌+◌, ◌<◌, ◌≤◌, true, false, inl, inr, List, [], ◌∷◌, ◌++◌, length, map, get_or}
+use Rattle.std.proofs.Common.{append_assoc, length-append, arith, Some, None}
 use Rattle.std.specs.Prelude.{All, IsTrue, nat_lt, nat_le, decimal}
 use Rattle.std.specs.List.{filter_map, position_from, AllByRecursion}
 use Rattle.std.specs.Str.{bytes_eq}
@@ -40,21 +41,26 @@ word_by Two names p h own l =
 pub word_of_process : (naming : Naming) (n p : ℕ) → IsNaming naming n → p < n → IsWordOf naming.version naming.names p
 word_of_process naming n p h l = let size = h.size in word_by naming.version naming.names p h.names h.own (omega arith)
 
-pub processes_right : (naming : Naming) (n : ℕ) (ps : List ℕ) → IsNaming naming n → AllByRecursion (λ p. p < n) ps → loc_fault naming (map (name_of naming.names) ps) ≡ None
+pub processes_right : (naming : Naming) (n : ℕ) (ps : List ℕ) → IsNaming naming n → AllByRecursion (λ p. p < n) ps →
+    loc_fault naming (map (name_of naming.names) ps) ≡ None
 processes_right naming n [] whole h = refl
 processes_right naming n (p ∷ ps) whole h = let w = word_of_process naming n p whole h.0 in let r = w.right in rw r (processes_right naming n ps whole h.1)
 
-pub processes_said : (naming : Naming) (n : ℕ) (ps : List ℕ) → IsNaming naming n → AllByRecursion (λ p. p < n) ps → filter_map (process_at naming) (map (name_of naming.names) ps) ≡ ps
+pub processes_said : (naming : Naming) (n : ℕ) (ps : List ℕ) → IsNaming naming n → AllByRecursion (λ p. p < n) ps →
+    filter_map (process_at naming) (map (name_of naming.names) ps) ≡ ps
 processes_said naming n [] whole h = refl
-processes_said naming n (p ∷ ps) whole h = let w = word_of_process naming n p whole h.0 in let m = w.means in rw m (ap (λ qs. p ∷ qs) (processes_said naming n ps whole h.1))
+processes_said naming n (p ∷ ps) whole h = let w = word_of_process naming n p whole h.0 in let m = w.means in
+    rw m (ap (λ qs. p ∷ qs) (processes_said naming n ps whole h.1))
 
-pub processes_print : (naming : Naming) (n : ℕ) (ps : List ℕ) → IsNaming naming n → AllByRecursion (λ p. p < n) ps → AllByRecursion CanPrint (map (name_of naming.names) ps)
+pub processes_print : (naming : Naming) (n : ℕ) (ps : List ℕ) → IsNaming naming n → AllByRecursion (λ p. p < n) ps →
+    AllByRecursion CanPrint (map (name_of naming.names) ps)
 processes_print naming n [] whole h = tt
 processes_print naming n (p ∷ ps) whole h = ((word_of_process naming n p whole h.0).word, processes_print naming n ps whole h.1)
 
 -- ---- the processes line
 
-absent : (names : List (List ℕ)) (word : List ℕ) (k : ℕ) → ((q : ℕ) → q < length names → name_of names q ≢ word) → position_from (λ name. bytes_eq name word) k names ≡ None
+absent : (names : List (List ℕ)) (word : List ℕ) (k : ℕ) → ((q : ℕ) → q < length names → name_of names q ≢ word) →
+    position_from (λ name. bytes_eq name word) k names ≡ None
 absent [] word k h = refl
 absent (name ∷ names) word k h =
     elim (cases_Bool (bytes_eq name word)) [
@@ -73,7 +79,8 @@ fresh_at before rest word apart =
     let same = apart q (length before) (omega arith) (omega arith) (get_or-append before (word ∷ rest) [] q l ∙ e ∙ sym (seam before rest word)) in
     omega arith)
 
-names_right : (before rest : List (List ℕ)) → AreApart (before ++ rest) → AllByRecursion (λ name. is_name name ≡ true) rest → process_names_fault before rest ≡ None
+names_right : (before rest : List (List ℕ)) → AreApart (before ++ rest) → AllByRecursion (λ name. is_name name ≡ true) rest →
+    process_names_fault before rest ≡ None
 names_right before [] apart all = refl
 names_right before (word ∷ rest) apart all =
     let name = all.0 in
@@ -94,13 +101,15 @@ pub record AreProcessWords (v : Version) (names : List (List ℕ)) : Type 0 wher
   pub say : names_of v (processes_words v names) ≡ names
   pub print : AllByRecursion CanPrint (processes_words v names)
 
-some_names : (names : List (List ℕ)) → 0 < length names → length names ≤ document_processes Two → process_names_fault [] names ≡ None → some_names_fault names ≡ None
+some_names : (names : List (List ℕ)) → 0 < length names → length names ≤ document_processes Two → process_names_fault [] names ≡ None →
+    some_names_fault names ≡ None
 some_names [] some few h = absurd (omega arith)
 some_names (name ∷ names) some few h =
     let no : nat_lt (document_processes Two) (length (name ∷ names)) ≡ false = grind (arith, nat_tests) in
     rw no h
 
-words_by : (v : Version) (names : List (List ℕ)) → AreNames names → AreNamesOf v names → 0 < length names → length names ≤ document_processes v → AreProcessWords v names
+words_by : (v : Version) (names : List (List ℕ)) → AreNames names → AreNamesOf v names → 0 < length names → length names ≤ document_processes v →
+    AreProcessWords v names
 words_by One names h own some few =
     let n = numeral_value-decimal (length names) (omega arith) in
     let low : nat_le 1 (length names) ≡ true = grind (arith, nat_tests) in

@@ -1,5 +1,6 @@
 -- A printed job is read back.
-use Rattle.std.proofs.Common.{◌≡◌, ◌∙◌, ap, sym, subst, ℕ, ◌+◌, ◌<◌, ◌≤◌, ◌^◌, zero, suc, Bool, true, false, List, [], ◌∷◌, ◌++◌, length, map, replicate, refl, append_assoc, length-append, arith, Option, None, ltb-true, inl, inr}
+use Rattle.std.proofs.Common.{◌≡◌, ◌∙◌, ap, sym, subst, ℕ, ◌+◌, ◌<◌, ◌≤◌, ◌^◌, zero, suc, Bool, true, false, List, [], ◌∷◌, ◌++◌, length, map, replicate, refl}
+use Rattle.std.proofs.Common.{append_assoc, length-append, arith, Option, None, ltb-true, inl, inr}
 use Rattle.std.specs.Prelude.{◌==◌, nat_le, nat_lt, decimal, codes}
 use Rattle.std.specs.List.{list_all, flat_map, range_with_len, AllByRecursion}
 use Rattle.std.proofs.lemmas.Bool.{cases_Bool, cases_eq}
@@ -25,8 +26,10 @@ use Rattle.za_lang.specs.Tests.{header_line_fault, items_fault}
 use Rattle.za_lang.proofs.Naming.{states_limit}
 use Rattle.za_lang.specs.Jobs.{JobData, IsJob}
 use Rattle.za_lang.specs.Order.{head_of, order_fault}
-use Rattle.za_lang.specs.Documents.{Said, Step, said, version_by, version_of, version_said, words_fault, faults_from, fault_of, script_of_steps, job_said, job_of, scripts_said}
-use Rattle.za_print.specs.Printed.{Run, version_word, processes_line, letter_line, accepting_states, accept_line, row_line, table_rows, row_lines, script_runs, item_word, script_line, script_lines, job_lines, printed}
+use Rattle.za_lang.specs.Documents.{Said, Step, said, version_by, version_of, version_said, words_fault, faults_from, fault_of, script_of_steps, job_said}
+use Rattle.za_lang.specs.Documents.{job_of, scripts_said}
+use Rattle.za_print.specs.Printed.{Run, version_word, processes_line, letter_line, accepting_states, accept_line, row_line, table_rows, row_lines, script_runs}
+use Rattle.za_print.specs.Printed.{item_word, script_line, script_lines, job_lines, printed}
 use Rattle.za_print.proofs.PrintedLines.{CanPrint, is_inner, IsLine, lines_of_text, printed_line, words_of_line, name_word, starred_word}
 use Rattle.za_print.proofs.Decimals.{numeral_value-decimal, numbers-decimal, word-decimal}
 use Rattle.za_lang.specs.Gathering.{more}
@@ -34,7 +37,8 @@ use Rattle.za_lang.specs.Reading.{nothing}
 use Rattle.za_lang.proofs.Saying.{said_none}
 use Rattle.za_print.proofs.ItemLemmas.{Finds, AreNamed, StepFits, RunFits, runs-fit, expand, expand-script, items_right, items_said}
 use Rattle.za_print.proofs.ProcessWords.{AreProcessWords, process_words, processes_print, word_of_process}
-use Rattle.za_print.proofs.Runs.{RunsTo, runs_on, runs_whole, small_numbers, AreLetters, placed, after_letters, letters_run, accepts_right, AreRows, after_rows, rows_run, steps_by_one}
+use Rattle.za_print.proofs.Runs.{RunsTo, runs_on, runs_whole, small_numbers, AreLetters, placed, after_letters, letters_run, accepts_right, AreRows, after_rows}
+use Rattle.za_print.proofs.Runs.{rows_run, steps_by_one}
 use Rattle.za_print.proofs.Facts.{one_by_one, weaker_by_one, finds_letters, letters_fit, rows_fit, targets_back, accepting_below, accepting_back}
 
 line_run : (s t u : Said) (ws : List (List ℕ)) (wss : List (List (List ℕ))) → words_fault s ws ≡ None → t ≡ more s ws → RunsTo t wss u → RunsTo s (ws ∷ wss) u
@@ -66,7 +70,8 @@ lengths_from scripts p (suc k) = length (script_of scripts p) + lengths_from scr
 
 abbrev after_scripts : Said → List (List ℕ) → ℕ → ℕ → Said
 after_scripts s scripts p zero = s
-after_scripts s scripts p (suc k) = after_scripts (placed (codes "script") (record s { steps = s.steps ++ steps_by_one p (script_of scripts p) })) scripts (p + 1) k
+after_scripts s scripts p (suc k) =
+    after_scripts (placed (codes "script") (record s { steps = s.steps ++ steps_by_one p (script_of scripts p) })) scripts (p + 1) k
 
 abbrev AreFit : DistributedAlphabet → List (List ℕ) → Type 0
 AreFit alphabet scripts = (q : ℕ) → q < alphabet.processes → AllByRecursion (StepFits alphabet.letters q) (script_of scripts q)
@@ -83,7 +88,8 @@ record IsScriptLine (naming : Naming) (letters : List NamedLetter) (read p : ℕ
   right : items_fault naming.version letters p read ws ≡ None
   say : letters_of_items naming.version letters ws ≡ script
 
-script_items : (naming : Naming) (letters : List NamedLetter) (read p : ℕ) (script : List ℕ) → Finds letters → AreNamed letters → AllByRecursion (StepFits letters p) script →
+script_items : (naming : Naming) (letters : List NamedLetter) (read p : ℕ) (script : List ℕ) → Finds letters → AreNamed letters →
+    AllByRecursion (StepFits letters p) script →
     read + length script ≤ most_script_letters → IsScriptLine naming letters read p script (map (item_word letters) (script_runs naming.version script))
 script_items naming letters read p script finds named own room =
     let v = naming.version in
@@ -111,8 +117,10 @@ scripts_run naming alphabet scripts s p (suc k) ready same letters o inside room
     let items = line.right in
     let say = line.say in
     let t : Said = placed (codes "script") (record s { steps = s.steps ++ steps_by_one p script }) in
-    let size : length (s.steps ++ steps_by_one p script) ≡ length s.steps + length script = length-append s.steps (steps_by_one p script) ∙ ap (λ m. length s.steps + m) (length-map script (λ (a : ℕ). let step : Step = record { process = p; letter = a } in step)) in
-    line_run s t (after_scripts t scripts (p + 1) k) (script_line naming alphabet.letters scripts p) (map (script_line naming alphabet.letters scripts) (range_with_len (p + 1) k))
+    let size : length (s.steps ++ steps_by_one p script) ≡ length s.steps + length script = length-append s.steps (steps_by_one p script)
+    ∙ ap (λ m. length s.steps + m) (length-map script (λ (a : ℕ). let step : Step = record { process = p; letter = a } in step)) in
+    line_run s t (after_scripts t scripts (p + 1) k) (script_line naming alphabet.letters scripts p)
+    (map (script_line naming alphabet.letters scripts) (range_with_len (p + 1) k))
     (rw (o, same, right, means, letters, items) refl) (rw (same, means, letters, say) (simp append-nil))
     (scripts_run naming alphabet scripts t (p + 1) k ready same letters refl (omega arith) (omega arith))
 
@@ -131,7 +139,8 @@ lengths_split scripts p (suc k) =
     let next = lengths_split scripts (p + 1) k in
     let one : total (script_of scripts) (p + 1) ≡ total (script_of scripts) p + length (script_of scripts p) = total_one p in
     let e : p + 1 + k ≡ p + suc k = omega arith in
-    let moved : total (script_of scripts) (p + 1) + lengths_from scripts (p + 1) k ≡ total (script_of scripts) (p + suc k) = next ∙ ap (total (script_of scripts)) e in
+    let moved : total (script_of scripts) (p + 1) + lengths_from scripts (p + 1) k ≡ total (script_of scripts) (p + suc k) = next
+    ∙ ap (total (script_of scripts)) e in
     omega arith
   where
     total_one : (q : ℕ) → total (script_of scripts) (q + 1) ≡ total (script_of scripts) q + length (script_of scripts q)
@@ -146,7 +155,8 @@ numbers_words (n ∷ ns) h = (word-decimal n h.0, numbers_words ns h.1)
 pub literal : (w : List ℕ) → nat_lt 0 (length w) ≡ true → list_all is_inner w ≡ true → CanPrint w
 literal w some inner = record { some = ltb-true _ _ some; inner = inner }
 
-letters_lines : (naming : Naming) (n : ℕ) (front ls : List NamedLetter) → IsNaming naming n → AreLetters naming.version n front ls → AllByRecursion IsLine (map (letter_line naming.names) ls)
+letters_lines : (naming : Naming) (n : ℕ) (front ls : List NamedLetter) → IsNaming naming n → AreLetters naming.version n front ls →
+    AllByRecursion IsLine (map (letter_line naming.names) ls)
 letters_lines naming n front [] whole h = tt
 letters_lines naming n front (l ∷ ls) whole h = (
   (refl, (literal (codes "letter") refl refl, (name_word l.name h.0.name, processes_print naming n (members l.loc) whole h.0.procs))),
@@ -157,11 +167,18 @@ rows_lines : (states : ℕ) (letters : List NamedLetter) (front rows : List Row)
     → AreRows states letters front rows → AllByRecursion IsLine (map (row_line letters) rows)
 rows_lines states letters front [] few w h = tt
 rows_lines states letters front (row ∷ rows) few w h = (
-  (refl, (literal (codes "row") refl refl, (word-decimal row.from (omega (arith, h.0.from)), (w row.letter.0 h.0.letter, (word-decimal row.to (omega (arith, h.0.to)), tt))))),
+  (
+    refl,
+    (
+      literal (codes "row") refl refl,
+      (word-decimal row.from (omega (arith, h.0.from)), (w row.letter.0 h.0.letter, (word-decimal row.to (omega (arith, h.0.to)), tt))),
+    ),
+  ),
   rows_lines states letters (front ++ row ∷ []) rows few w h.1,
 )
 
-items_print : (v : Version) (letters : List NamedLetter) (P : ℕ → Type 0) (rs : List Run) → ((a : ℕ) → P a → CanPrint (name_at letters a)) → AllByRecursion (RunFits v P) rs →
+items_print : (v : Version) (letters : List NamedLetter) (P : ℕ → Type 0) (rs : List Run) → ((a : ℕ) → P a → CanPrint (name_at letters a)) →
+    AllByRecursion (RunFits v P) rs →
     length (expand rs) ≤ most_script_letters → AllByRecursion CanPrint (map (item_word letters) rs)
 items_print v letters P [] w h few = tt
 items_print v letters P (r ∷ rs) w h few =
@@ -175,7 +192,8 @@ items_print v letters P (r ∷ rs) w h few =
     ] in
     (word, items_print v letters P rs w h.1 (omega arith))
 
-scripts_lines : (naming : Naming) (alphabet : DistributedAlphabet) (scripts : List (List ℕ)) (p k : ℕ) → AreReady naming alphabet scripts → ((q : ℕ) → q < alphabet.processes → length (script_of scripts q) ≤ most_script_letters) →
+scripts_lines : (naming : Naming) (alphabet : DistributedAlphabet) (scripts : List (List ℕ)) (p k : ℕ) → AreReady naming alphabet scripts →
+    ((q : ℕ) → q < alphabet.processes → length (script_of scripts q) ≤ most_script_letters) →
     p + k ≤ alphabet.processes → AllByRecursion IsLine (map (script_line naming alphabet.letters scripts) (range_with_len p k))
 scripts_lines naming alphabet scripts p zero ready few inside = tt
 scripts_lines naming alphabet scripts p (suc k) ready few inside =
@@ -185,7 +203,8 @@ scripts_lines naming alphabet scripts p (suc k) ready few inside =
     let short = few p (omega arith) in
     let size : length (expand (script_runs v script)) ≡ length script = ap length (expand-script v script) in
     let word = word_of_process naming alphabet.processes p ready.processes (omega arith) in
-    let items = items_print v alphabet.letters (StepFits alphabet.letters p) (script_runs v script) (λ a fits. name_word (name_at alphabet.letters a) (ready.named a fits.letter)) fit (omega arith) in (
+    let items = items_print v alphabet.letters (StepFits alphabet.letters p) (script_runs v script)
+    (λ a fits. name_word (name_at alphabet.letters a) (ready.named a fits.letter)) fit (omega arith) in (
       (refl, (literal (codes "script") refl refl, (word.word, items))),
       scripts_lines naming alphabet scripts (p + 1) k ready few (omega arith),
     )
@@ -366,18 +385,28 @@ module _ (job : JobData) (whole : IsJob job) where
         (refl, (literal (codes "zla") refl refl, (header_print version, tt))),
         (
           (refl, (literal (codes "processes") refl refl, processes_words_right.print)),
-          both_lines (map (letter_line naming.names) alphabet.letters) _ (letters_lines naming alphabet.processes [] alphabet.letters whole.naming (letters_fit version alphabet whole.lang.distributed whole.limits.few_letters)) (
-            (refl, (literal (codes "states") refl refl, (word-decimal job.lang.states states_few, tt))),
-            (
-              (refl, (literal (codes "start") refl refl, (word-decimal job.lang.start (omega arith), tt))),
-              (
-                (refl, (literal (codes "accept") refl refl, numbers_words accepts (small_numbers job.lang.states accepts states_few (accepting_below job.lang whole.lang)))),
-                both_lines (row_lines job.lang) _ (rows_lines job.lang.states alphabet.letters [] (table_rows job.lang) states_few named (rows_fit job.lang whole.lang))
-                    (both_lines (script_lines naming alphabet job.scripts) _ (scripts_lines naming alphabet job.scripts 0 alphabet.processes ready script_few (omega arith))
-                    ((refl, (literal (codes "end") refl refl, tt)), tt)),
+          both_lines (map (letter_line naming.names) alphabet.letters) _
+              (letters_lines naming alphabet.processes [] alphabet.letters whole.naming
+              (letters_fit version alphabet whole.lang.distributed whole.limits.few_letters)) (
+                (refl, (literal (codes "states") refl refl, (word-decimal job.lang.states states_few, tt))),
+                (
+                  (refl, (literal (codes "start") refl refl, (word-decimal job.lang.start (omega arith), tt))),
+                  (
+                    (
+                      refl,
+                      (
+                        literal (codes "accept") refl refl,
+                        numbers_words accepts (small_numbers job.lang.states accepts states_few (accepting_below job.lang whole.lang)),
+                      ),
+                    ),
+                    both_lines (row_lines job.lang) _
+                        (rows_lines job.lang.states alphabet.letters [] (table_rows job.lang) states_few named (rows_fit job.lang whole.lang))
+                        (both_lines (script_lines naming alphabet job.scripts) _
+                        (scripts_lines naming alphabet job.scripts 0 alphabet.processes ready script_few (omega arith))
+                        ((refl, (literal (codes "end") refl refl, tt)), tt)),
+                  ),
+                ),
               ),
-            ),
-          ),
         ),
       )
 
@@ -399,7 +428,14 @@ module _ (job : JobData) (whole : IsJob job) where
       let made : ℕ → List Bool → List (Option ℕ) → List (List ℕ) → JobData =
       λ n accepting targets scripts. record {
         naming = naming;
-        lang = record { alphabet = record { processes = n; letters = alphabet.letters }; states = job.lang.states; start = job.lang.start; accepting = accepting; targets = targets };
+        lang = record {
+          alphabet = record { processes = n; letters = alphabet.letters };
+          states = job.lang.states;
+          start = job.lang.start;
+          accepting =
+              accepting;
+          targets = targets;
+        };
         scripts = scripts;
       } in
       let back = job_said told in
@@ -412,7 +448,10 @@ module _ (job : JobData) (whole : IsJob job) where
   version_is : version_of (map printed_line (job_lines job)) ≡ version
   version_is =
       let first = codes "zla" ∷ version_word version ∷ [] in
-      let rest = version_of (map printed_line (processes_line naming ∷ (map (letter_line naming.names) alphabet.letters ++ (number_line (codes "states") job.lang.states ∷ number_line (codes "start") job.lang.start ∷ accept_line job.lang ∷ (row_lines job.lang ++ (script_lines naming alphabet job.scripts ++ (codes "end" ∷ []) ∷ [])))))) in
+      let rest = version_of (map printed_line
+      (processes_line naming ∷ (map (letter_line naming.names) alphabet.letters
+      ++ (number_line (codes "states") job.lang.states ∷ number_line (codes "start") job.lang.start ∷ accept_line
+      job.lang ∷ (row_lines job.lang ++ (script_lines naming alphabet job.scripts ++ (codes "end" ∷ []) ∷ [])))))) in
       let words = words_of_line first (refl, (literal (codes "zla") refl refl, (header_print version, tt))) in
       ap (version_by rest) words ∙ header_says version
 

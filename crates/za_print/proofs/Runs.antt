@@ -78,7 +78,8 @@ pub record LetterFits (v : Version) (n : ℕ) (front : List NamedLetter) (l : Na
   pub procs : AllByRecursion (λ p. p < n) (members l.loc)
   pub whole : set_of (members l.loc) ≡ l.loc
 
-loc_right : (naming : Naming) (n : ℕ) (front : List NamedLetter) (l : NamedLetter) (p : ℕ) (ps : List ℕ) → IsNaming naming n → LetterFits naming.version n front l → members l.loc ≡ p ∷ ps →
+loc_right : (naming : Naming) (n : ℕ) (front : List NamedLetter) (l : NamedLetter) (p : ℕ) (ps : List ℕ) → IsNaming naming n →
+    LetterFits naming.version n front l → members l.loc ≡ p ∷ ps →
     new_letter_fault naming front l.name (map (name_of naming.names) (p ∷ ps)) ≡ None
 loc_right naming n front l p ps whole h e =
     let room : nat_le (document_letters naming.version) (length front) ≡ false = let r = h.few in grind (arith, nat_tests) in
@@ -108,7 +109,8 @@ after_letters s (l ∷ ls) = after_letters (placed (codes "letter") (record s { 
 said_letter : (l : NamedLetter) → set_of (members l.loc) ≡ l.loc → ◌≡◌ {A = NamedLetter} (record { name = l.name; loc = set_of (members l.loc) }) l
 said_letter l e = ap (λ s. record { name = l.name; loc = s }) e
 
-pub letters_run : (s : Said) (n : ℕ) (ls : List NamedLetter) → IsNaming s.naming n → order_fault s.place (head_of (codes "letter")) ≡ None → AreLetters s.naming.version n s.letters ls
+pub letters_run : (s : Said) (n : ℕ) (ls : List NamedLetter) → IsNaming s.naming n → order_fault s.place (head_of (codes "letter")) ≡ None →
+    AreLetters s.naming.version n s.letters ls
     → RunsTo s (map (letter_line s.naming.names) ls) (after_letters s ls)
 letters_run s n [] whole o h = refl
 letters_run s n (l ∷ ls) whole o h =
@@ -153,7 +155,8 @@ abbrev pub after_rows : Said → List Row → Said
 after_rows s [] = s
 after_rows s (row ∷ rows) = after_rows (record s { rows = s.rows ++ row ∷ [] }) rows
 
-pub rows_run : (s : Said) (rows : List Row) → s.states < 2 ^ 32 → Finds s.letters → s.place ≡ next_place s.place (head_of (codes "row")) → order_fault s.place (head_of (codes "row")) ≡ None
+pub rows_run : (s : Said) (rows : List Row) → s.states < 2 ^ 32 → Finds s.letters → s.place ≡ next_place s.place (head_of (codes "row")) →
+    order_fault s.place (head_of (codes "row")) ≡ None
     → AreRows s.states s.letters s.rows rows → RunsTo s (map (row_line s.letters) rows) (after_rows s rows)
 rows_run s [] few finds o f h = refl
 rows_run s (row ∷ rows) few finds o f h =

@@ -153,6 +153,16 @@ impl<T> Shelf<T> {
         None
     }
 
+    /// Takes one from the count of a key that has another holder too: the key stays live.
+    pub fn release_one(&mut self, key: Key)
+        requires { 1 < count_at self.old key.0 }
+        ensures changes { MatchOption (at self.old key.0) ⊥
+            (λ c. Changes self.old self.new key.0 (Some (record c { count = c.count - 1 }))) }
+        ensures live { live self.new ≡ live self.old }
+    {
+        self.slab[key.0 as usize].count -= 1;
+    }
+
     /// Whether an equal value stands at the key.
     fn is_at(&self, key: usize, value: &T) -> bool
     where

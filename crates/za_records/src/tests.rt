@@ -20,6 +20,8 @@ fn every_call_once(rt: HostRuntime) -> Result<(), Fail> {
     let second = shelf.put(8, 1);
     shelf.hold(second, 2);
     assert_eq!(rt; shelf.count(second), 3);
+    shelf.release_one(second);
+    assert_eq!(rt; shelf.count(second), 2);
     assert_eq!(rt; *shelf.get(second), 8);
     assert_eq!(rt; shelf.same(&8), Some(second));
     assert_eq!(rt; shelf.same(&9), None);

@@ -1,5 +1,6 @@
 -- The lines of what each process knows, by the numbers of events that it keeps.
-use Rattle.std.proofs.Common.{◌≡◌, ◌≢◌, ℕ, ◌+◌, ◌-◌, ◌%◌, ◌^◌, ◌≤◌, List, [], ◌∷◌, ◌++◌, All, length, map, Option, Some, None, sym, ap, subst, ◌∙◌, refl, arith, append_assoc}
+use Rattle.std.proofs.Common.{◌≡◌, ◌≢◌, ℕ, ◌+◌, ◌-◌, ◌%◌, ◌^◌, ◌≤◌, List, [], ◌∷◌, ◌++◌, All, length, map, Option, Some, None, sym, ap, subst, ◌∙◌, refl, arith}
+use Rattle.std.proofs.Common.{append_assoc}
 use Rattle.std.specs.Prelude.{slice_index, codes, decimal}
 use Rattle.std.specs.List.{range_with_len}
 use Rattle.std.proofs.lemmas.List.FromFn.{length-map-range_with_len, get_or-map-range_with_len}
@@ -24,7 +25,8 @@ use Rattle.za_report.specs.LocalStates.{entry_word, known_words}
 use Rattle.za_report.specs.Private.KeptLines.{kept_words}
 
 -- the word of an entry by its number is the word of the entry
-entry-by-number : (alphabet : DistributedAlphabet) (w : List ℕ) (e : Option ℕ) → number_word alphabet (number (loc_of alphabet) alphabet.processes w e) ≡ entry_word alphabet w e
+entry-by-number : (alphabet : DistributedAlphabet) (w : List ℕ) (e : Option ℕ) →
+    number_word alphabet (number (loc_of alphabet) alphabet.processes w e) ≡ entry_word alphabet w e
 entry-by-number alphabet w None = refl
 entry-by-number alphabet w (Some i) =
     let n = alphabet.processes in
@@ -43,23 +45,29 @@ words-by-numbers : (alphabet : DistributedAlphabet) (w : List ℕ) (p : ℕ) (xs
 words-by-numbers alphabet w p [] = refl
 words-by-numbers alphabet w p (q ∷ xs) =
     let e = primary (participants (loc_of alphabet) w) (length w) p q in
-    ap (λ (x : List ℕ). x ∷ map (number_word alphabet) (map (ids (loc_of alphabet) alphabet.processes w (length w) p).primary xs)) (entry-by-number alphabet w e)
+    ap (λ (x : List ℕ). x ∷ map (number_word alphabet) (map (ids (loc_of alphabet) alphabet.processes w (length w) p).primary xs))
+    (entry-by-number alphabet w e)
     ∙ ap (λ (ys : List (List ℕ)). entry_word alphabet w e ∷ ys) (words-by-numbers alphabet w p xs)
 
 -- what a process keeps says what it knows
-pub known-by-numbers : (d : CompleteDfa) (w : List ℕ) (p : ℕ) (numbers : List ℕ) (state : ℕ) → numbers ≡ (rows_after (loc_of d.alphabet) d.alphabet.processes w p).primary →
+pub known-by-numbers : (d : CompleteDfa) (w : List ℕ) (p : ℕ) (numbers : List ℕ) (state : ℕ) →
+    numbers ≡ (rows_after (loc_of d.alphabet) d.alphabet.processes w p).primary →
     state ≡ view_state_after d w p → kept_words d.alphabet numbers state ≡ known_words d w p
 known-by-numbers d w p numbers state e f =
-    ap (λ (xs : List ℕ). kept_words d.alphabet xs state) e ∙ ap (λ s. kept_words d.alphabet (rows_after (loc_of d.alphabet) d.alphabet.processes w p).primary s) f
-    ∙ ap (λ (ys : List (List ℕ)). ys ++ codes "view" ∷ decimal (view_state_after d w p) ∷ []) (words-by-numbers d.alphabet w p (range_with_len 0 d.alphabet.processes))
+    ap (λ (xs : List ℕ). kept_words d.alphabet xs state) e
+    ∙ ap (λ s. kept_words d.alphabet (rows_after (loc_of d.alphabet) d.alphabet.processes w p).primary s) f
+    ∙ ap (λ (ys : List (List ℕ)). ys ++ codes "view" ∷ decimal (view_state_after d w p) ∷ [])
+    (words-by-numbers d.alphabet w p (range_with_len 0 d.alphabet.processes))
 
 -- the number of an entry is at most that of the last label of the last letter
 entry-bounded : (alphabet : DistributedAlphabet) (w : List ℕ) (p q : ℕ) (o : Option ℕ) → IsDistributed alphabet → IsWord (length alphabet.letters) w →
-    primary (participants (loc_of alphabet) w) (length w) p q ≡ o → number (loc_of alphabet) alphabet.processes w o ≤ label_bound (length alphabet.letters) alphabet.processes
+    primary (participants (loc_of alphabet) w) (length w) p q ≡ o →
+    number (loc_of alphabet) alphabet.processes w o ≤ label_bound (length alphabet.letters) alphabet.processes
 entry-bounded alphabet w p q None whole word is = omega arith
 entry-bounded alphabet w p q (Some e) whole word is =
     let who = participants (loc_of alphabet) w in
-    numbers_are_bounded (loc_of alphabet) (length alphabet.letters) alphabet.processes w e whole.located word (primary-below who (length w) p q e (primary-sound who (length w) p q e is))
+    numbers_are_bounded (loc_of alphabet) (length alphabet.letters) alphabet.processes w e whole.located word
+    (primary-below who (length w) p q e (primary-sound who (length w) p q e is))
 
 -- and so are all primary numbers of a process
 pub numbers-bounded : (alphabet : DistributedAlphabet) (w : List ℕ) (p : ℕ) → IsDistributed alphabet → IsWord (length alphabet.letters) w →
@@ -67,11 +75,13 @@ pub numbers-bounded : (alphabet : DistributedAlphabet) (w : List ℕ) (p : ℕ) 
 numbers-bounded alphabet w p whole word k d l =
     let f = (ids (loc_of alphabet) alphabet.processes w (length w) p).primary in
     let long : length (map f (range_with_len 0 alphabet.processes)) ≡ alphabet.processes = length-map-range_with_len f 0 alphabet.processes in
-    subst (λ v. v ≤ label_bound (length alphabet.letters) alphabet.processes) (sym (get_or-map-range_with_len f 0 alphabet.processes k k d (omega arith) (omega arith)))
+    subst (λ v. v ≤ label_bound (length alphabet.letters) alphabet.processes)
+    (sym (get_or-map-range_with_len f 0 alphabet.processes k k d (omega arith) (omega arith)))
     (entry-bounded alphabet w p k (primary (participants (loc_of alphabet) w) (length w) p k) whole word refl)
 
 -- words after words, and then a state
-pub kept-spaced : (alphabet : DistributedAlphabet) (numbers : List ℕ) (state : ℕ) (old one two new : List ℕ) → one ≡ old ++ spaced (map (number_word alphabet) numbers) →
+pub kept-spaced : (alphabet : DistributedAlphabet) (numbers : List ℕ) (state : ℕ) (old one two new : List ℕ) → one ≡ old
+    ++ spaced (map (number_word alphabet) numbers) →
     two ≡ one ++ spaced (codes "view" ∷ []) → new ≡ two ++ spaced (decimal state ∷ []) → new ≡ old ++ spaced (kept_words alphabet numbers state)
 kept-spaced alphabet numbers state old one two new a b c =
     let words = map (number_word alphabet) numbers in

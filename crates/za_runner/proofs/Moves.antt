@@ -6,15 +6,16 @@ use Rattle.std.proofs.lemmas.List.Elements.{All-same}
 use Rattle.std.proofs.lemmas.Bool.{or_cases, or_left, or_right}
 use Rattle.za_alpha.specs.Words.{has}
 use Rattle.za_hall.specs.Halls.{HallState, DeskState, IsOf, IsSameDesk}
-use Rattle.za_runner.specs.Private.Lists.{numbers}
+use Rattle.za_runner.specs.Private.Lists.{desk_numbers}
 
 -- the same desk is of the same hall
 pub of_same : (d e : DeskState) (h : HallState) → IsSameDesk d e → IsOf d h → IsOf e h
 of_same d e h s of = record { name = s.name ∙ of.name; given = s.given ∙ of.given }
 
-pub numbers_set : (ds : List DeskState) (i : ℕ) (d x : DeskState) → i < length ds → x.number ≡ (get_or ds i d).number → numbers (set ds i x) ≡ numbers ds
+pub numbers_set : (ds : List DeskState) (i : ℕ) (d x : DeskState) → i < length ds → x.number ≡ (get_or ds i d).number →
+    desk_numbers (set ds i x) ≡ desk_numbers ds
 numbers_set [] i d x l e = absurd (omega arith)
-numbers_set (y ∷ ds) zero d x l e = ap (λ (p : ℕ). p ∷ numbers ds) e
+numbers_set (y ∷ ds) zero d x l e = ap (λ (p : ℕ). p ∷ desk_numbers ds) e
 numbers_set (y ∷ ds) (suc i) d x l e = ap (λ ps. y.number ∷ ps) (numbers_set ds i d x (omega arith) e)
 
 module _ {X : Type 0} (f : X → ℕ) where
@@ -44,11 +45,11 @@ module _ {X : Type 0} (f : X → ℕ) where
 
 module _ {X : Type 0} (f : X → ℕ) (left : List DeskState) (d : DeskState) (p : ℕ) where
   -- a desk goes from the first list to a list of others
-  pub moved : (all : List DeskState) → all ≡ left ++ d ∷ [] → (xs ys : List X) (x : X) → ys ≡ xs ++ x ∷ [] → f x ≡ d.number → has (numbers all) p ≡ true →
-      (has (numbers left) p ≡ true) ⊎ (has (map f ys) p ≡ true)
+  pub moved : (all : List DeskState) → all ≡ left ++ d ∷ [] → (xs ys : List X) (x : X) → ys ≡ xs ++ x ∷ [] → f x ≡ d.number → has (desk_numbers all) p ≡ true →
+      (has (desk_numbers left) p ≡ true) ⊎ (has (map f ys) p ≡ true)
   moved all e xs ys x s same h =
       ⊎_elim inl (λ k. inr (subst (λ zs. has (map f zs) p ≡ true) (sym s) (has_last f xs x p (same ∙ k))))
-      (has_case (λ (c : DeskState). c.number) left d p (subst (λ ds. has (numbers ds) p ≡ true) e h))
+      (has_case (λ (c : DeskState). c.number) left d p (subst (λ ds. has (desk_numbers ds) p ≡ true) e h))
 
   pub kept : (xs ys : List X) (x : X) → ys ≡ xs ++ x ∷ [] → has (map f xs) p ≡ true → has (map f ys) p ≡ true
   kept xs ys x s h = subst (λ zs. has (map f zs) p ≡ true) (sym s) (has_left f xs x p h)

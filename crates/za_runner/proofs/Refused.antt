@@ -8,10 +8,10 @@ use Rattle.za_hall.specs.declared.refusal.CloseWhy.{CloseWhy}
 use Rattle.za_hall.specs.declared.refusal.CloseWhy.TheVariants.{Missing, NotOver}
 use Rattle.za_hall.specs.Halls.{AreDesks, Refuses}
 use Rattle.za_hall.proofs.Letters.{false_true}
-use Rattle.za_runner.specs.Private.Lists.{numbers, AreOf}
+use Rattle.za_runner.specs.Private.Lists.{desk_numbers, AreOf}
 use Rattle.za_runner.proofs.Moves.{has_found, has_at}
 
-pub never_refused : (n : ℕ) (ds : List DeskState) (why : CloseWhy) → ((p : ℕ) → p < n → has (numbers ds) p ≡ true) → All (λ d. d.view.over ≡ true) ds
+pub never_refused : (n : ℕ) (ds : List DeskState) (why : CloseWhy) → ((p : ℕ) → p < n → has (desk_numbers ds) p ≡ true) → All (λ d. d.view.over ≡ true) ds
     → Refuses n ds why → ⊥
 never_refused n ds (Missing p) all over r = r.holds (has_found (λ (d : DeskState). d.number) ds p (all p r.within))
 never_refused n ds (NotOver p) all over r = let a = r.1 in
@@ -24,6 +24,6 @@ some_of : (ds : List DeskState) → 0 < length ds → DeskState
 some_of [] l = absurd (omega arith)
 some_of (d ∷ ds) l = d
 
-pub all_there : (h : HallState) (n : ℕ) (ds : List DeskState) → AreDesks h n ds → (p : ℕ) → p < n → has (numbers ds) p ≡ true
+pub all_there : (h : HallState) (n : ℕ) (ds : List DeskState) → AreDesks h n ds → (p : ℕ) → p < n → has (desk_numbers ds) p ≡ true
 all_there h n ds a p l = let m : p < length ds = (let e = a.size in omega arith) in let d = some_of ds (omega arith) in has_at
     (λ (x : DeskState). x.number) ds p d p m (a.each p d m).number

@@ -5,7 +5,7 @@ ghost use Rattle.za_script.specs.ScriptLists.{FitAlphabet};
 ghost use Rattle.za_table.specs.Ends.{IsEnded, HasAnswer};
 ghost use Rattle.za_hall.specs.Halls.{IsOf, AreDesks};
 ghost use Rattle.za_table.specs.Tables.{machine_of};
-ghost use Rattle.za_runner.specs.Private.Lists.{numbers, AreOf, AreIn, promised};
+ghost use Rattle.za_runner.specs.Private.Lists.{desk_numbers, AreOf, AreIn, promised};
 
 use crate::gate::Gate;
 use crate::steps::step_all;
@@ -38,7 +38,7 @@ fn start_all<'s, E, R: Threads + Wait + Sync, G: Gate>(
     requires empty { (handles.old.items ≡ []) × (mine.old.items ≡ []) }
     requires room { (length desks.items ≤ vec_capacity handles.old) × (length desks.items ≤ vec_capacity mine.old) }
     ensures of { AreOf hall.now mine.new.items × All (λ h. IsOf h.promise.0.value hall.now) handles.new.items }
-    ensures all { AreIn (numbers desks.items) (map promised handles.new.items) (numbers mine.new.items) }
+    ensures all { AreIn (desk_numbers desks.items) (map promised handles.new.items) (desk_numbers mine.new.items) }
     ensures room { length handles.new.items + length mine.new.items ≤ vec_capacity mine.new }
 {
     while let Some(desk) = desks.pop() {
@@ -55,8 +55,8 @@ fn join_all<R: Threads + Wait>(rt: &R, hall: &Hall, mut handles: Vec<Handle>, mi
     requires room { length handles.items + length mine.old.items ≤ vec_capacity mine.old }
     ensures of { AreOf hall.now mine.new.items }
     ensures all { (p : ℕ) →
-        (has (map promised handles.items) p ≡ true) ⊎ (has (numbers mine.old.items) p ≡ true) →
-        has (numbers mine.new.items) p ≡ true }
+        (has (map promised handles.items) p ≡ true) ⊎ (has (desk_numbers mine.old.items) p ≡ true) →
+        has (desk_numbers mine.new.items) p ≡ true }
 {
     while let Some(handle) = handles.pop() {
         let Worked {
@@ -83,7 +83,7 @@ fn run_in<'s, E, R: Threads + Wait + Sync, G: Gate>(
     requires empty { (handles.items ≡ []) × (mine.items ≡ []) }
     requires room { (length desks.items ≤ vec_capacity handles) × (length desks.items ≤ vec_capacity mine) }
     ensures of { AreOf hall.now result.items }
-    ensures all { (p : ℕ) → has (numbers desks.items) p ≡ true → has (numbers result.items) p ≡ true }
+    ensures all { (p : ℕ) → has (desk_numbers desks.items) p ≡ true → has (desk_numbers result.items) p ≡ true }
 {
     start_all(rt, scope, hall, gate, flags, desks, &mut handles, &mut mine);
     step_all(rt, hall, &mut mine);
@@ -106,7 +106,7 @@ fn run_all<R: Threads + Wait + Sync, G: Gate>(
     requires empty { (handles.items ≡ []) × (mine.items ≡ []) }
     requires room { (length desks.items ≤ vec_capacity handles) × (length desks.items ≤ vec_capacity mine) }
     ensures of { AreOf hall.now result.items }
-    ensures all { (p : ℕ) → has (numbers desks.items) p ≡ true → has (numbers result.items) p ≡ true }
+    ensures all { (p : ℕ) → has (desk_numbers desks.items) p ≡ true → has (desk_numbers result.items) p ≡ true }
     ensures over { All (λ d. d.view.over ≡ true) result.items }
 {
     let mut back = thread::scope(
@@ -118,7 +118,7 @@ fn run_all<R: Threads + Wait + Sync, G: Gate>(
             requires empty { (handles.items ≡ []) × (mine.items ≡ []) }
             requires room { (length desks.items ≤ vec_capacity handles) × (length desks.items ≤ vec_capacity mine) }
             ensures of { AreOf hall.entry.now result.items }
-            ensures all { (p : ℕ) → has (numbers desks.items) p ≡ true → has (numbers result.items) p ≡ true }
+            ensures all { (p : ℕ) → has (desk_numbers desks.items) p ≡ true → has (desk_numbers result.items) p ≡ true }
         { run_in(rt, scope, hall, gate, flags, desks, handles, mine) },
     );
     step_all(rt, hall, &mut back);

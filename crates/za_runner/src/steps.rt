@@ -1,6 +1,6 @@
 //! Stepping desks on one thread, in turns.
 ghost use Rattle.std.specs.Prelude.{◌≡◌, ◌↔◌, length, All, IsTrue, true, vec_capacity};
-ghost use Rattle.za_runner.specs.Private.Lists.{numbers, AreOf};
+ghost use Rattle.za_runner.specs.Private.Lists.{desk_numbers, AreOf};
 
 use std::sync::Wait;
 use za_hall::{Desk, Hall};
@@ -21,7 +21,7 @@ fn are_over(desks: &[Desk]) -> bool
 fn step_each(hall: &Hall, desks: &mut Vec<Desk>)
     requires { AreOf hall.now desks.old.items }
     ensures of { AreOf hall.now desks.new.items }
-    ensures numbers { numbers desks.new.items ≡ numbers desks.old.items }
+    ensures numbers { desk_numbers desks.new.items ≡ desk_numbers desks.old.items }
     ensures room { (vec_capacity desks.new ≡ vec_capacity desks.old)
         × (length desks.new.items ≡ length desks.old.items) }
 {
@@ -34,7 +34,7 @@ fn step_each(hall: &Hall, desks: &mut Vec<Desk>)
 pub(crate) fn step_all<R: Wait>(rt: &R, hall: &Hall, desks: &mut Vec<Desk>)
     requires { AreOf hall.now desks.old.items }
     ensures of { AreOf hall.now desks.new.items }
-    ensures numbers { numbers desks.new.items ≡ numbers desks.old.items }
+    ensures numbers { desk_numbers desks.new.items ≡ desk_numbers desks.old.items }
     ensures room { (vec_capacity desks.new ≡ vec_capacity desks.old)
         × (length desks.new.items ≡ length desks.old.items) }
     ensures over { All (λ d. d.view.over ≡ true) desks.new.items }

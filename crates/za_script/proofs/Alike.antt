@@ -27,14 +27,16 @@ rest_is_closed loc d w hw closed u v hu hv e =
     let P : ℕ → Type 0 = λ a. a < d.letters in
     accepted-after d w u ∙ closed (w ++ u) (w ++ v) (All-append P w u hw hu) (All-append P w v hw hv) (same-before loc w u v e) ∙ sym (accepted-after d w v)
 
-pub weaves-join : (loc : ℕ → List ℕ) (letters : ℕ) (scripts : ℕ → List ℕ) (w v : List ℕ) → Fits loc letters scripts w → Weaves loc letters (rests loc scripts w) v → Weaves loc letters scripts (w ++ v)
+pub weaves-join : (loc : ℕ → List ℕ) (letters : ℕ) (scripts : ℕ → List ℕ) (w v : List ℕ) → Fits loc letters scripts w →
+    Weaves loc letters (rests loc scripts w) v → Weaves loc letters scripts (w ++ v)
 weaves-join loc letters scripts w v f k =
     record {
       word = All-append (λ a. a < letters) w v f.word k.word;
       whole = λ p. filter-append (λ a. has (loc a) p) w v ∙ ap (λ x. projection loc p w ++ x) (k.whole p) ∙ script-parts loc letters scripts w f p;
     }
 
-pub weaves-split : (loc : ℕ → List ℕ) (letters : ℕ) (scripts : ℕ → List ℕ) (w v : List ℕ) → IsWord letters v → Weaves loc letters scripts (w ++ v) → Weaves loc letters (rests loc scripts w) v
+pub weaves-split : (loc : ℕ → List ℕ) (letters : ℕ) (scripts : ℕ → List ℕ) (w v : List ℕ) → IsWord letters v → Weaves loc letters scripts (w ++ v) →
+    Weaves loc letters (rests loc scripts w) v
 weaves-split loc letters scripts w v hv k =
     record {
       word = hv;
@@ -43,7 +45,8 @@ weaves-split loc letters scripts w v hv k =
           ∙ ap (drop (length (projection loc p w))) (sym (filter-append (λ a. has (loc a) p) w v) ∙ k.whole p);
     }
 
-module _ (loc : ℕ → List ℕ) (processes : ℕ) (d : Automaton) (scripts : ℕ → List ℕ) (w : List ℕ) (al : IsAlphabet loc d.letters processes) (closed : IsTraceClosed loc d) (f : Fits loc d.letters scripts w) where
+module _ (loc : ℕ → List ℕ) (processes : ℕ) (d : Automaton) (scripts : ℕ → List ℕ) (w : List ℕ) (al : IsAlphabet loc d.letters processes)
+    (closed : IsTraceClosed loc d) (f : Fits loc d.letters scripts w) where
   pub rest-word : IsWord d.letters (weave loc d.letters processes (rests loc scripts w))
   rest-word = (weave_is_maximal loc d.letters processes (rests loc scripts w) al).fits.word
 
@@ -51,22 +54,26 @@ module _ (loc : ℕ → List ℕ) (processes : ℕ) (d : Automaton) (scripts : �
   joined-word = All-append (λ a. a < d.letters) w (weave loc d.letters processes (rests loc scripts w)) f.word rest-word
 
   -- the rest's weave uses up the rests exactly if the weave uses up the scripts
-  pub up : Weaves loc d.letters (rests loc scripts w) (weave loc d.letters processes (rests loc scripts w)) → Weaves loc d.letters scripts (weave loc d.letters processes scripts)
+  pub up : Weaves loc d.letters (rests loc scripts w) (weave loc d.letters processes (rests loc scripts w)) →
+      Weaves loc d.letters scripts (weave loc d.letters processes scripts)
   up k =
       let v = weave loc d.letters processes (rests loc scripts w) in
       weave_decides loc d.letters processes scripts (w ++ v) al (weaves-join loc d.letters scripts w v f k)
 
-  pub down : Weaves loc d.letters scripts (weave loc d.letters processes scripts) → Weaves loc d.letters (rests loc scripts w) (weave loc d.letters processes (rests loc scripts w))
+  pub down : Weaves loc d.letters scripts (weave loc d.letters processes scripts) →
+      Weaves loc d.letters (rests loc scripts w) (weave loc d.letters processes (rests loc scripts w))
   down k =
       let v = weave loc d.letters processes (rests loc scripts w) in
-      weaves-split loc d.letters scripts w v rest-word (record { word = joined-word; whole = λ p. rest_is_one_trace loc d.letters processes scripts w al f p ∙ k.whole p })
+      weaves-split loc d.letters scripts w v rest-word
+      (record { word = joined-word; whole = λ p. rest_is_one_trace loc d.letters processes scripts w al f p ∙ k.whole p })
 
   -- and they are accepted alike
   pub alike : is_accepted (after d w) (weave loc d.letters processes (rests loc scripts w)) ≡ is_accepted d (weave loc d.letters processes scripts)
   alike =
       let v = weave loc d.letters processes (rests loc scripts w) in
       accepted-after d w v
-      ∙ closed (w ++ v) (weave loc d.letters processes scripts) joined-word (weave_is_maximal loc d.letters processes scripts al).fits.word (rest_is_one_trace loc d.letters processes scripts w al f)
+      ∙ closed (w ++ v) (weave loc d.letters processes scripts) joined-word (weave_is_maximal loc d.letters processes scripts al).fits.word
+      (rest_is_one_trace loc d.letters processes scripts w al f)
 
 pub rest_has_the_answer : RestHasTheAnswer
 rest_has_the_answer loc processes d scripts w Accept al closed f =

@@ -9,7 +9,8 @@ use Rattle.za_script.specs.Laws.{AcceptIsOfTheWeave, RejectIsOfTheWeave, StuckIs
 use Rattle.za_script.proofs.Confluence.{weave_decides, maximal_words_weave}
 
 -- words that weave the same scripts are accepted alike
-weave-alike : (loc : ℕ → List ℕ) (d : Automaton) (scripts : ℕ → List ℕ) (u v : List ℕ) → IsTraceClosed loc d → Weaves loc d.letters scripts u → Weaves loc d.letters scripts v →
+weave-alike : (loc : ℕ → List ℕ) (d : Automaton) (scripts : ℕ → List ℕ) (u v : List ℕ) → IsTraceClosed loc d → Weaves loc d.letters scripts u →
+    Weaves loc d.letters scripts v →
     is_accepted d u ≡ is_accepted d v
 weave-alike loc d scripts u v closed ku kv = closed u v ku.word kv.word (λ p. ku.whole p ∙ sym (kv.whole p))
 
@@ -32,7 +33,8 @@ stuck_is_of_the_weave loc processes d scripts al =
     (λ h k. h (weave loc d.letters processes scripts) k, λ h w k. h (weave_decides loc d.letters processes scripts w al k))
 
 -- by whether the word weaves the scripts, and is accepted
-answer-by : (loc : ℕ → List ℕ) (d : Automaton) (scripts : ℕ → List ℕ) (w : List ℕ) → IsTraceClosed loc d → (whole accepted : Bool) → is_accepted d w ≡ accepted →
+answer-by : (loc : ℕ → List ℕ) (d : Automaton) (scripts : ℕ → List ℕ) (w : List ℕ) → IsTraceClosed loc d → (whole accepted : Bool) →
+    is_accepted d w ≡ accepted →
     (whole ≡ true → Weaves loc d.letters scripts w) → ((v : List ℕ) → Weaves loc d.letters scripts v → whole ≡ true) →
     IsAnswer loc d scripts (if whole then (if accepted then Accept else Reject) else Stuck)
 answer-by loc d scripts w closed true true e up down = (w, up refl, e)

@@ -1,5 +1,6 @@
 -- The weave fits the scripts maximally, and the words that do are one trace.
-use Rattle.std.proofs.Common.{◌≡◌, ℕ, zero, suc, ◌+◌, ◌<◌, ◌≤◌, true, false, inl, inr, List, [], ◌∷◌, ◌++◌, ◌==◌, length, slice_index, refl, sym, ap, subst, ◌∙◌, arith, eqb-true, eq-eqb, length-append, append_assoc, nat_lt, ltb-true, ltb-false, append-nil}
+use Rattle.std.proofs.Common.{◌≡◌, ℕ, zero, suc, ◌+◌, ◌<◌, ◌≤◌, true, false, inl, inr, List, [], ◌∷◌, ◌++◌, ◌==◌, length, slice_index, refl, sym, ap, subst}
+use Rattle.std.proofs.Common.{◌∙◌, arith, eqb-true, eq-eqb, length-append, append_assoc, nat_lt, ltb-true, ltb-false, append-nil}
 use Rattle.std.proofs.Math.Seq.{get_or-append_seam}
 use Rattle.std.proofs.lemmas.Bool.{cases_Bool, cases_lt, cases_eq, and_parts, and_from, lt-ltb}
 use Rattle.std.proofs.lemmas.List.Elements.{filter-append, All-head, All-tail, All-nil, All-push}
@@ -41,10 +42,18 @@ module _ (loc : ℕ → List ℕ) (letters : ℕ) (scripts : ℕ → List ℕ) w
             elim (cases_Bool (has (loc a) p)) [
               | inl t ↦
                   let c : comes_next (projection loc p w ++ k.0) (length (projection loc p w)) a ≡ true =
-                  subst (λ s. comes_next s (length (projection loc p w)) a ≡ true) (sym k.1) (all-at (λ q. comes_next (scripts q) (length (projection loc q w)) a) (loc a) p h t) in
-                  let n = next-in (projection loc p w) k.0 a c in
-                  (n.0, ap (λ x. x ++ n.0) (seen-append p w (a ∷ []) ∙ ap (λ x. projection loc p w ++ x) (seen-take loc p a [] t)) ∙ append_assoc (projection loc p w) (a ∷ []) n.0 ∙ ap (λ x. projection loc p w ++ x) (sym n.1) ∙ k.1)
-              | inr s ↦ (k.0, ap (λ x. x ++ k.0) (seen-append p w (a ∷ []) ∙ ap (λ x. projection loc p w ++ x) (seen-skip loc p a [] s) ∙ append-nil (projection loc p w)) ∙ k.1)
+                  subst (λ s. comes_next s (length (projection loc p w)) a ≡ true) (sym k.1)
+                  (all-at (λ q. comes_next (scripts q) (length (projection loc q w)) a) (loc a) p h t) in
+                  let n = next-in (projection loc p w) k.0 a c in (
+                    n.0,
+                    ap (λ x. x ++ n.0) (seen-append p w (a ∷ []) ∙ ap (λ x. projection loc p w ++ x) (seen-take loc p a [] t))
+                        ∙ append_assoc (projection loc p w) (a ∷ []) n.0 ∙ ap (λ x. projection loc p w ++ x) (sym n.1) ∙ k.1,
+                  )
+              | inr s ↦ (
+                k.0,
+                ap (λ x. x ++ k.0) (seen-append p w (a ∷ []) ∙ ap (λ x. projection loc p w ++ x) (seen-skip loc p a [] s)
+                    ∙ append-nil (projection loc p w)) ∙ k.1,
+              )
             ];
       }
 
@@ -53,7 +62,8 @@ module _ (loc : ℕ → List ℕ) (letters : ℕ) (scripts : ℕ → List ℕ) w
     pub below : (p : ℕ) → length (projection loc p w) ≤ length (projection loc p v)
 
   -- one more letter of a word that fits stays below a word that fits maximally
-  step-below : (x y v : List ℕ) (a : ℕ) → a < letters → Fits loc letters scripts (x ++ a ∷ y) → FitsMaximally loc letters scripts v → Below x v → Below (x ++ a ∷ []) v
+  step-below : (x y v : List ℕ) (a : ℕ) → a < letters → Fits loc letters scripts (x ++ a ∷ y) → FitsMaximally loc letters scripts v → Below x v →
+      Below (x ++ a ∷ []) v
   step-below x y v a la f m b =
       record {
         below = λ p.
@@ -87,7 +97,8 @@ module _ (loc : ℕ → List ℕ) (letters : ℕ) (scripts : ℕ → List ℕ) w
                           | inr gq ↦
                               let le : length (projection loc q x) ≡ length (projection loc q v) = omega arith in
                               let n : comes_next (scripts q) (length (projection loc q v)) a ≡ true =
-                              subst (λ i. comes_next (scripts q) i a ≡ true) le (subst (λ s. comes_next s (length (projection loc q x)) a ≡ true) kq.1 (next-from (projection loc q x) kq.0 a)) in
+                              subst (λ i. comes_next (scripts q) i a ≡ true) le
+                              (subst (λ s. comes_next s (length (projection loc q x)) a ≡ true) kq.1 (next-from (projection loc q x) kq.0 a)) in
                               let off = w.2 in cc
                         ])
                   ]
@@ -98,7 +109,8 @@ module _ (loc : ℕ → List ℕ) (letters : ℕ) (scripts : ℕ → List ℕ) w
       parts p t =
           let k = f.prefix p in (
             projection loc p y ++ k.0,
-            sym (append_assoc (projection loc p x) (a ∷ projection loc p y) k.0) ∙ ap (λ z. z ++ k.0) (ap (λ z. projection loc p x ++ z) (sym (seen-take loc p a y t)) ∙ sym (seen-append p x (a ∷ y))) ∙ k.1,
+            sym (append_assoc (projection loc p x) (a ∷ projection loc p y) k.0)
+                ∙ ap (λ z. z ++ k.0) (ap (λ z. projection loc p x ++ z) (sym (seen-take loc p a y t)) ∙ sym (seen-append p x (a ∷ y))) ∙ k.1,
           )
 
   all-below : (x y v : List ℕ) → Fits loc letters scripts (x ++ y) → FitsMaximally loc letters scripts v → Below x v → Below (x ++ y) v
@@ -150,10 +162,12 @@ module _ (loc : ℕ → List ℕ) (letters : ℕ) (scripts : ℕ → List ℕ) w
   pub fits-length : (processes : ℕ) (w : List ℕ) → IsAlphabet loc letters processes → Fits loc letters scripts w → length w ≤ total scripts processes
   fits-length processes w al f =
       let a = length-le-total processes w al f.word in
-      let b = total-le (λ p. projection loc p w) scripts processes (λ p. let k = f.prefix p in let e = ap length (sym k.1) ∙ length-append (projection loc p w) k.0 in omega arith) in
+      let b = total-le (λ p. projection loc p w) scripts processes
+      (λ p. let k = f.prefix p in let e = ap length (sym k.1) ∙ length-append (projection loc p w) k.0 in omega arith) in
       omega arith
 
-  pub weave-maximal : (processes : ℕ) (more : ℕ) (w : List ℕ) → IsAlphabet loc letters processes → Fits loc letters scripts w → total scripts processes ≤ length w + more →
+  pub weave-maximal : (processes : ℕ) (more : ℕ) (w : List ℕ) → IsAlphabet loc letters processes → Fits loc letters scripts w →
+      total scripts processes ≤ length w + more →
       FitsMaximally loc letters scripts (weave_from loc letters scripts more w)
   weave-maximal processes zero w al f t =
       record {
@@ -182,12 +196,15 @@ pub empty-fits : (loc : ℕ → List ℕ) (letters : ℕ) (scripts : ℕ → Lis
 empty-fits loc letters scripts = record { word = All-nil (λ a. a < letters); prefix = λ p. (scripts p, refl) }
 
 pub weave_is_maximal : WeaveIsMaximal
-weave_is_maximal loc letters processes scripts al = weave-maximal loc letters scripts processes (total scripts processes) [] al (empty-fits loc letters scripts) (omega arith)
+weave_is_maximal loc letters processes scripts al =
+    weave-maximal loc letters scripts processes (total scripts processes) [] al (empty-fits loc letters scripts) (omega arith)
 
 -- each word that fits maximally is equivalent to the weave
-pub maximal-one : (loc : ℕ → List ℕ) (letters processes : ℕ) (scripts : ℕ → List ℕ) (w : List ℕ) → IsAlphabet loc letters processes → FitsMaximally loc letters scripts w →
+pub maximal-one : (loc : ℕ → List ℕ) (letters processes : ℕ) (scripts : ℕ → List ℕ) (w : List ℕ) → IsAlphabet loc letters processes →
+    FitsMaximally loc letters scripts w →
     AreEquivalent loc w (weave loc letters processes scripts)
-maximal-one loc letters processes scripts w al m = maximal-equivalent loc letters scripts w (weave loc letters processes scripts) m (weave_is_maximal loc letters processes scripts al)
+maximal-one loc letters processes scripts w al m =
+    maximal-equivalent loc letters scripts w (weave loc letters processes scripts) m (weave_is_maximal loc letters processes scripts al)
 
 -- the same letters are enabled after equivalent words
 pub enabled-same : (loc scripts : ℕ → List ℕ) (u v : List ℕ) (a : ℕ) → AreEquivalent loc u v → is_enabled loc scripts u a ≡ is_enabled loc scripts v a
@@ -196,7 +213,8 @@ enabled-same loc scripts u v a e =
     (λ p h. ap (λ w. comes_next (scripts p) (length w) a) (e p))
 
 -- a word that is equivalent to one that fits maximally does so too
-pub equivalent-maximal : (loc : ℕ → List ℕ) (letters : ℕ) (scripts : ℕ → List ℕ) (u v : List ℕ) → IsWord letters u → AreEquivalent loc u v → FitsMaximally loc letters scripts v →
+pub equivalent-maximal : (loc : ℕ → List ℕ) (letters : ℕ) (scripts : ℕ → List ℕ) (u v : List ℕ) → IsWord letters u → AreEquivalent loc u v →
+    FitsMaximally loc letters scripts v →
     FitsMaximally loc letters scripts u
 equivalent-maximal loc letters scripts u v hu e m =
     record {
@@ -211,7 +229,8 @@ maximal_words_are_one_trace loc letters processes scripts w al = (
 )
 
 -- after a word that weaves the scripts no letter is enabled
-pub weaves-maximal : (loc : ℕ → List ℕ) (letters processes : ℕ) (scripts : ℕ → List ℕ) (w : List ℕ) → IsAlphabet loc letters processes → Weaves loc letters scripts w → FitsMaximally loc letters scripts w
+pub weaves-maximal : (loc : ℕ → List ℕ) (letters processes : ℕ) (scripts : ℕ → List ℕ) (w : List ℕ) → IsAlphabet loc letters processes →
+    Weaves loc letters scripts w → FitsMaximally loc letters scripts w
 weaves-maximal loc letters processes scripts w al k =
     record {
       fits = record { word = k.word; prefix = λ p. ([], append-nil (projection loc p w) ∙ k.whole p) };
@@ -220,8 +239,11 @@ weaves-maximal loc letters processes scripts w al k =
         | inl on ↦ absurd (
             let q = al.some a la in
             let c : comes_next (projection loc q.0 w) (length (projection loc q.0 w)) a ≡ true =
-            subst (λ s. comes_next s (length (projection loc q.0 w)) a ≡ true) (sym (k.whole q.0)) (all-at (λ p. comes_next (scripts p) (length (projection loc p w)) a) (loc a) q.0 on q.1) in
-            let l = ltb-true (length (projection loc q.0 w)) (length (projection loc q.0 w)) (and_parts (nat_lt (length (projection loc q.0 w)) (length (projection loc q.0 w))) (slice_index (projection loc q.0 w) (length (projection loc q.0 w)) == a) c).0 in
+            subst (λ s. comes_next s (length (projection loc q.0 w)) a ≡ true) (sym (k.whole q.0))
+            (all-at (λ p. comes_next (scripts p) (length (projection loc p w)) a) (loc a) q.0 on q.1) in
+            let l = ltb-true (length (projection loc q.0 w)) (length (projection loc q.0 w))
+            (and_parts (nat_lt (length (projection loc q.0 w)) (length (projection loc q.0 w)))
+            (slice_index (projection loc q.0 w) (length (projection loc q.0 w)) == a) c).0 in
             omega arith)
       ];
     }
@@ -233,4 +255,5 @@ weave_decides loc letters processes scripts w al k =
     record { word = m.fits.word; whole = λ p. sym (e p) ∙ k.whole p }
 
 pub maximal_words_weave : MaximalWordsWeave
-maximal_words_weave loc letters processes scripts w al k m = record { word = m.fits.word; whole = λ p. maximal-one loc letters processes scripts w al m p ∙ k.whole p }
+maximal_words_weave loc letters processes scripts w al k m =
+    record { word = m.fits.word; whole = λ p. maximal-one loc letters processes scripts w al m p ∙ k.whole p }

@@ -1,5 +1,6 @@
 -- Weaving goes on from a word: the letters that follow are those that the rests of the scripts weave.
-use Rattle.std.proofs.Common.{◌≡◌, ℕ, zero, suc, ◌+◌, ◌<◌, ◌≤◌, false, Bool, ◌&&◌, inl, inr, List, [], ◌∷◌, ◌++◌, ◌==◌, length, take, drop, slice_index, refl, sym, ap, subst, ◌∙◌, arith, length-append, append_assoc, append-nil, nat_lt}
+use Rattle.std.proofs.Common.{◌≡◌, ℕ, zero, suc, ◌+◌, ◌<◌, ◌≤◌, false, Bool, ◌&&◌, inl, inr, List, [], ◌∷◌, ◌++◌, ◌==◌, length, take, drop, slice_index, refl}
+use Rattle.std.proofs.Common.{sym, ap, subst, ◌∙◌, arith, length-append, append_assoc, append-nil, nat_lt}
 use Rattle.std.proofs.Math.Seq.{drop-append_seam}
 use Rattle.std.proofs.lemmas.Bool.{cases_lt, lt-ltb, le-ltb, cases_Bool}
 use Rattle.std.proofs.lemmas.List.{length-drop, get_or-drop, take-append-drop}
@@ -46,7 +47,8 @@ module _ (loc : ℕ → List ℕ) (letters : ℕ) (scripts : ℕ → List ℕ) w
     pub stuck : (a : ℕ) → a < letters → is_enabled loc scripts w a ≡ false
 
   -- a weave that is over is no longer with more turns
-  pub more-turns : (n m : ℕ) (w : List ℕ) → n ≤ m → IsOver (weave_from loc letters scripts n w) → weave_from loc letters scripts m w ≡ weave_from loc letters scripts n w
+  pub more-turns : (n m : ℕ) (w : List ℕ) → n ≤ m → IsOver (weave_from loc letters scripts n w) →
+      weave_from loc letters scripts m w ≡ weave_from loc letters scripts n w
   more-turns zero m w le o = ends m w (let e = least-none (is_enabled loc scripts w) letters o.stuck in omega arith)
   more-turns (suc n) zero w le o = absurd (omega arith)
   more-turns (suc n) (suc m) w le o =
@@ -57,7 +59,8 @@ module _ (loc : ℕ → List ℕ) (letters : ℕ) (scripts : ℕ → List ℕ) w
       ]
 
   -- two weaves that are over are one
-  pub over-same : (n m : ℕ) (w : List ℕ) → IsOver (weave_from loc letters scripts n w) → IsOver (weave_from loc letters scripts m w) → weave_from loc letters scripts n w ≡ weave_from loc letters scripts m w
+  pub over-same : (n m : ℕ) (w : List ℕ) → IsOver (weave_from loc letters scripts n w) → IsOver (weave_from loc letters scripts m w) →
+      weave_from loc letters scripts n w ≡ weave_from loc letters scripts m w
   over-same n m w on om =
       elim (cases_lt n m) [
         | inl l ↦ sym (more-turns n m w (omega arith) on)
@@ -65,12 +68,14 @@ module _ (loc : ℕ → List ℕ) (letters : ℕ) (scripts : ℕ → List ℕ) w
       ]
 
   -- with enough turns it is over
-  pub over-late : (processes more : ℕ) (w : List ℕ) → IsAlphabet loc letters processes → Fits loc letters scripts w → total scripts processes ≤ length w + more → IsOver (weave_from loc letters scripts more w)
+  pub over-late : (processes more : ℕ) (w : List ℕ) → IsAlphabet loc letters processes → Fits loc letters scripts w →
+      total scripts processes ≤ length w + more → IsOver (weave_from loc letters scripts more w)
   over-late processes zero w al f t =
       record {
         stuck = λ a la. elim (cases_Bool (is_enabled loc scripts w a)) [
           | inr off ↦ off
-          | inl on ↦ absurd (let k = fits-length loc letters scripts processes (w ++ a ∷ []) al (fits-more loc letters scripts w a la f on) in let e = length-append w (a ∷ []) in omega arith)
+          | inl on ↦ absurd (let k = fits-length loc letters scripts processes (w ++ a ∷ []) al (fits-more loc letters scripts w a la f on) in let e =
+              length-append w (a ∷ []) in omega arith)
         ];
       }
   over-late processes (suc more) w al f t =
@@ -90,8 +95,10 @@ module _ (loc : ℕ → List ℕ) (letters : ℕ) (scripts : ℕ → List ℕ) (
   -- the rests enable after a word what the scripts enable after both
   pub enabled-rest : (v : List ℕ) (a : ℕ) → is_enabled loc scripts (w ++ v) a ≡ is_enabled loc (rests loc scripts w) v a
   enabled-rest v a =
-      all-agree (λ p. comes_next (scripts p) (length (projection loc p (w ++ v))) a) (λ p. comes_next (rests loc scripts w p) (length (projection loc p v)) a) (loc a)
-      (λ p h. ap (λ n. comes_next (scripts p) n a) (seen-length p v) ∙ sym (next-rest (scripts p) (length (projection loc p w)) (length (projection loc p v)) a))
+      all-agree (λ p. comes_next (scripts p) (length (projection loc p (w ++ v))) a) (λ p. comes_next (rests loc scripts w p) (length (projection loc p v)) a)
+      (loc a)
+      (λ p h. ap (λ n. comes_next (scripts p) n a) (seen-length p v)
+      ∙ sym (next-rest (scripts p) (length (projection loc p w)) (length (projection loc p v)) a))
 
   -- so weaving on is weaving the rests
   pub weave-rest : (more : ℕ) (v : List ℕ) → weave_from loc letters scripts more (w ++ v) ≡ w ++ weave_from loc letters (rests loc scripts w) more v
@@ -103,7 +110,8 @@ module _ (loc : ℕ → List ℕ) (letters : ℕ) (scripts : ℕ → List ℕ) (
       elim (cases_lt a letters) [
         | inl l ↦
             goes-on loc letters scripts more (w ++ v) l ∙ ap (weave_from loc letters scripts more) (append_assoc w v (a ∷ [])) ∙ weave-rest more (v ++ a ∷ [])
-            ∙ ap (λ x. w ++ weave_from loc letters (rests loc scripts w) more (v ++ x ∷ [])) e ∙ ap (λ x. w ++ x) (sym (goes-on loc letters (rests loc scripts w) more v (omega arith)))
+            ∙ ap (λ x. w ++ weave_from loc letters (rests loc scripts w) more (v ++ x ∷ [])) e
+            ∙ ap (λ x. w ++ x) (sym (goes-on loc letters (rests loc scripts w) more v (omega arith)))
         | inr g ↦ ends loc letters scripts (suc more) (w ++ v) g ∙ ap (λ x. w ++ x) (sym (ends loc letters (rests loc scripts w) (suc more) v (omega arith)))
       ]
 
@@ -116,11 +124,16 @@ weaving_goes_on loc letters processes scripts more w al f t =
     let over = over-late loc letters scripts processes more w al f t in
     let on = weave-all-rest loc letters scripts w more in
     let left : IsOver loc letters rest (weave_from loc letters rest more []) =
-    record { stuck = λ a l. sym (enabled-rest loc letters scripts w (weave_from loc letters rest more []) a) ∙ ap (λ x. is_enabled loc scripts x a) (sym on) ∙ over.stuck a l } in
-    on ∙ ap (λ x. w ++ x) (over-same loc letters rest more (total rest processes) [] left (record { stuck = (weave_is_maximal loc letters processes rest al).stuck }))
+    record {
+      stuck = λ a l. sym (enabled-rest loc letters scripts w (weave_from loc letters rest more []) a) ∙ ap (λ x. is_enabled loc scripts x a) (sym on)
+          ∙ over.stuck a l;
+    } in
+    on ∙ ap (λ x. w ++ x) (over-same loc letters rest more (total rest processes) [] left
+    (record { stuck = (weave_is_maximal loc letters processes rest al).stuck }))
 
 -- a beginning of a weave is come to after as many turns
-pub cut-at : (loc : ℕ → List ℕ) (letters : ℕ) (scripts : ℕ → List ℕ) (n : ℕ) (v u x : List ℕ) → weave_from loc letters scripts n v ≡ u ++ x → length v ≤ length u →
+pub cut-at : (loc : ℕ → List ℕ) (letters : ℕ) (scripts : ℕ → List ℕ) (n : ℕ) (v u x : List ℕ) → weave_from loc letters scripts n v ≡ u
+    ++ x → length v ≤ length u →
     (m : ℕ) × (m + length u ≡ n + length v) × (weave_from loc letters scripts n v ≡ weave_from loc letters scripts m u)
 cut-at loc letters scripts zero v u x e le =
     let l = ap length e ∙ length-append u x in
@@ -137,7 +150,8 @@ cut-at loc letters scripts (suc n) v u x e le =
         | inr g ↦ absurd (let l = ap length (sym (ends loc letters scripts (suc n) v g) ∙ e) ∙ length-append u x in omega arith)
       ]
       | inr ge ↦
-          let s = same_front v (weave_from loc letters (rests loc scripts v) (suc n) []) u x (sym (weave-all-rest loc letters scripts v (suc n)) ∙ e) (omega arith) in
+          let s = same_front v (weave_from loc letters (rests loc scripts v) (suc n) []) u x (sym (weave-all-rest loc letters scripts v (suc n)) ∙ e)
+          (omega arith) in
           (suc n, omega (arith, ap length s), ap (weave_from loc letters scripts (suc n)) s)
     ]
 
@@ -194,8 +208,10 @@ module _ (loc : ℕ → List ℕ) (letters : ℕ) (scripts : ℕ → List ℕ) (
 pub rest_is_one_trace : RestIsOneTrace
 rest_is_one_trace loc letters processes scripts w al f =
     let v = weave loc letters processes (rests loc scripts w) in
-    maximal-one loc letters processes scripts (w ++ v) al (maximal-join loc letters scripts w f v (weave_is_maximal loc letters processes (rests loc scripts w) al))
+    maximal-one loc letters processes scripts (w ++ v) al
+    (maximal-join loc letters scripts w f v (weave_is_maximal loc letters processes (rests loc scripts w) al))
 
 pub counts_add_up : CountsAddUp
 counts_add_up loc letters processes scripts w p al f =
-    sym (seen-length loc letters scripts w p (weave loc letters processes (rests loc scripts w))) ∙ ap length (rest_is_one_trace loc letters processes scripts w al f p)
+    sym (seen-length loc letters scripts w p (weave loc letters processes (rests loc scripts w)))
+    ∙ ap length (rest_is_one_trace loc letters processes scripts w al f p)

@@ -19,5 +19,6 @@ letter-all P xs e k l h =
     subst P (get_or-map (λ (a : Letter). a.0) xs k e 0 l) (h k 0 (omega arith))
 
 -- what holds of each number of a script holds of the letter at a place
-pub letter-of : (P : ℕ → Type 0) (script : List ℕ) (xs : List Letter) (e : Letter) (k : ℕ) → numbers xs ≡ script → k < length xs → All P script → P (get_or xs k e).0
+pub letter-of : (P : ℕ → Type 0) (script : List ℕ) (xs : List Letter) (e : Letter) (k : ℕ) → numbers xs ≡ script → k < length xs → All P script →
+    P (get_or xs k e).0
 letter-of P script xs e k same l h = letter-all P xs e k l (subst (All P) (sym same) h)

@@ -1,5 +1,6 @@
 -- Where the loop of a weaving stands: the word so far is what the definition has made.
-use Rattle.std.proofs.Common.{◌≡◌, ℕ, zero, suc, ◌+◌, ◌-◌, ◌<◌, ◌≤◌, true, false, ◌↔◌, inl, inr, List, [], ◌∷◌, ◌++◌, ◌==◌, length, slice_index, nat_lt, refl, sym, ap, subst, ◌∙◌, arith, cond, length-append, ltb-true, eqb-true, append-nil}
+use Rattle.std.proofs.Common.{◌≡◌, ℕ, zero, suc, ◌+◌, ◌-◌, ◌<◌, ◌≤◌, true, false, ◌↔◌, inl, inr, List, [], ◌∷◌, ◌++◌, ◌==◌, length, slice_index, nat_lt, refl}
+use Rattle.std.proofs.Common.{sym, ap, subst, ◌∙◌, arith, cond, length-append, ltb-true, eqb-true, append-nil}
 use Rattle.std.specs.List.{All}
 use Rattle.std.proofs.lemmas.Bool.{cases_Bool, cases_lt, lt-ltb, le-ltb, cond-true, cond-false, and_parts}
 use Rattle.std.proofs.lemmas.List.{get_or_past}
@@ -19,10 +20,12 @@ use Rattle.za_script.proofs.Confluence.{fits-more, fits-length, empty-fits}
 -- the letter that comes next is one of the script
 next-own : (P : ℕ → Type 0) (script : List ℕ) (n a : ℕ) → comes_next script n a ≡ true → All P script → P a
 next-own P script n a h all =
-    let k = and_parts (nat_lt n (length script)) (slice_index script n == a) h in subst P (eqb-true (slice_index script n) a k.1) (all n 0 (ltb-true n (length script) k.0))
+    let k = and_parts (nat_lt n (length script)) (slice_index script n == a) h in
+    subst P (eqb-true (slice_index script n) a k.1) (all n 0 (ltb-true n (length script) k.0))
 
 -- each letter of a script is one of its process
-own-letters : (alphabet : DistributedAlphabet) (scripts : List (List ℕ)) (p : ℕ) → FitAlphabet alphabet scripts → All (IsLetterOf alphabet p) (script_of scripts p)
+own-letters : (alphabet : DistributedAlphabet) (scripts : List (List ℕ)) (p : ℕ) → FitAlphabet alphabet scripts →
+    All (IsLetterOf alphabet p) (script_of scripts p)
 own-letters alphabet scripts p fit =
     elim (cases_lt p (length scripts)) [
       | inl lt ↦ fit.own p lt
@@ -34,7 +37,8 @@ module _ (loc : ℕ → List ℕ) (letters : ℕ) (scripts : ℕ → List ℕ) w
   pub from-end : (more : ℕ) (w : List ℕ) → letters ≤ least (is_enabled loc scripts w) letters → weave_from loc letters scripts more w ≡ w
   from-end zero w h = refl
   from-end (suc more) w h =
-      let a = least (is_enabled loc scripts w) letters in ap (λ b. elim b [ true ↦ weave_from loc letters scripts more (w ++ a ∷ []) | false ↦ w ]) (le-ltb a letters h)
+      let a = least (is_enabled loc scripts w) letters in
+      ap (λ b. elim b [ true ↦ weave_from loc letters scripts more (w ++ a ∷ []) | false ↦ w ]) (le-ltb a letters h)
 
   -- and goes on by the least that is
   pub from-step : (more n : ℕ) (w : List ℕ) (a : ℕ) → a ≡ least (is_enabled loc scripts w) letters → a < letters → more ≡ suc n →
@@ -70,7 +74,8 @@ seen-more loc places moved word a p m o =
 pub used-up : (alphabet : DistributedAlphabet) (scripts : List (List ℕ)) → FitAlphabet alphabet scripts → (places word : List ℕ) →
     Fits (loc_of alphabet) (length alphabet.letters) (script_of scripts) word →
     ((p : ℕ) → p < alphabet.processes → slice_index places p ≡ length (projection (loc_of alphabet) p word)) →
-    (((p : ℕ) → p < length scripts → slice_index places p ≡ length (script_of scripts p)) ↔ Weaves (loc_of alphabet) (length alphabet.letters) (script_of scripts) word)
+    (((p : ℕ) → p < length scripts → slice_index places p ≡ length (script_of scripts p))
+    ↔ Weaves (loc_of alphabet) (length alphabet.letters) (script_of scripts) word)
 used-up alphabet scripts fit places word fits seen = (
   λ used. record {
     word = fits.word;
@@ -98,9 +103,11 @@ used-up alphabet scripts fit places word fits seen = (
     length-none [] h = refl
     length-none (x ∷ xs) h = absurd (omega arith)
 
-module _ (alphabet : DistributedAlphabet) (scripts : List (List ℕ)) (al : IsAlphabet (loc_of alphabet) (length alphabet.letters) alphabet.processes) (fit : FitAlphabet alphabet scripts) where
+module _ (alphabet : DistributedAlphabet) (scripts : List (List ℕ)) (al : IsAlphabet (loc_of alphabet) (length alphabet.letters) alphabet.processes)
+    (fit : FitAlphabet alphabet scripts) where
   -- a complete letter is enabled
-  complete-enabled : (places : List ℕ) (sets : List Procs) (word : List ℕ) (a : ℕ) → Stands alphabet scripts places sets word → a < length alphabet.letters → IsGathered alphabet sets a →
+  complete-enabled : (places : List ℕ) (sets : List Procs) (word : List ℕ) (a : ℕ) → Stands alphabet scripts places sets word → a < length alphabet.letters →
+      IsGathered alphabet sets a →
       is_enabled (loc_of alphabet) (script_of scripts) word a ≡ true
   complete-enabled places sets word a s la k =
       all-from (λ p. comes_next (script_of scripts p) (length (projection (loc_of alphabet) p word)) a) (loc_of alphabet a)
@@ -121,7 +128,8 @@ module _ (alphabet : DistributedAlphabet) (scripts : List (List ℕ)) (al : IsAl
                   ∙ all-at (λ q. comes_next (script_of scripts q) (length (projection (loc_of alphabet) q word)) a) (loc_of alphabet a) p on t ∙ sym t
               | inr f ↦ elim (cases_Bool (comes_next (script_of scripts p) (slice_index places p) a)) [
                 | inl h ↦
-                    let own = (next-own (IsLetterOf alphabet p) (script_of scripts p) (slice_index places p) a h (own-letters alphabet scripts p fit)).own in absurd (let e : true ≡ false = sym own ∙ f in cc)
+                    let own = (next-own (IsLetterOf alphabet p) (script_of scripts p) (slice_index places p) a h (own-letters alphabet scripts p fit)).own in
+                    absurd (let e : true ≡ false = sym own ∙ f in cc)
                 | inr h ↦ h ∙ sym f
               ]
             ];
@@ -141,7 +149,8 @@ module _ (alphabet : DistributedAlphabet) (scripts : List (List ℕ)) (al : IsAl
       (complete-enabled places sets word a s l k.complete)
 
   -- the loop begins
-  pub stands-start : (places : List ℕ) (sets : List Procs) → length places ≡ alphabet.processes → length sets ≡ length alphabet.letters → ((p : ℕ) → p < alphabet.processes → slice_index places p ≡ 0) →
+  pub stands-start : (places : List ℕ) (sets : List Procs) → length places ≡ alphabet.processes → length sets ≡ length alphabet.letters →
+      ((p : ℕ) → p < alphabet.processes → slice_index places p ≡ 0) →
       IsReady (script_of scripts) places sets → Stands alphabet scripts places sets []
   stands-start places sets size letters begin ready =
       record {
@@ -154,9 +163,11 @@ module _ (alphabet : DistributedAlphabet) (scripts : List (List ℕ)) (al : IsAl
       }
 
   -- a letter that is fired is one more of the word
-  pub stands-step : (places moved : List ℕ) (sets more : List Procs) (word : List ℕ) (a : ℕ) → Stands alphabet scripts places sets word → IsLeastGathered alphabet sets a →
+  pub stands-step : (places moved : List ℕ) (sets more : List Procs) (word : List ℕ) (a : ℕ) → Stands alphabet scripts places sets word →
+      IsLeastGathered alphabet sets a →
       length moved ≡ length places → length more ≡ length sets →
-      ((p : ℕ) → p < length scripts → slice_index moved p ≡ slice_index places p + cond (has (loc_of alphabet a) p) 1 0) → IsReady (script_of scripts) moved more →
+      ((p : ℕ) → p < length scripts → slice_index moved p ≡ slice_index places p + cond (has (loc_of alphabet a) p) 1 0) →
+      IsReady (script_of scripts) moved more →
       Stands alphabet scripts moved more (word ++ a ∷ [])
   stands-step places moved sets more word a s k size letters step ready =
       let loc = loc_of alphabet in
@@ -193,9 +204,11 @@ module _ (alphabet : DistributedAlphabet) (scripts : List (List ℕ)) (al : IsAl
         | inl on ↦ absurd (none.none b lb (enabled-complete places sets word b s lb on))
         | inr off ↦ off
       ]) in
-      sym (s.same ∙ from-end (loc_of alphabet) (length alphabet.letters) (script_of scripts) (total (script_of scripts) alphabet.processes - length word) word (omega arith))
+      sym (s.same ∙ from-end (loc_of alphabet) (length alphabet.letters) (script_of scripts) (total (script_of scripts) alphabet.processes - length word) word
+      (omega arith))
 
   -- the word weaves the scripts exactly if each is used up
   pub stands-whole : (places : List ℕ) (sets : List Procs) (word : List ℕ) → Stands alphabet scripts places sets word →
-      (((p : ℕ) → p < length scripts → slice_index places p ≡ length (script_of scripts p)) ↔ Weaves (loc_of alphabet) (length alphabet.letters) (script_of scripts) word)
+      (((p : ℕ) → p < length scripts → slice_index places p ≡ length (script_of scripts p))
+      ↔ Weaves (loc_of alphabet) (length alphabet.letters) (script_of scripts) word)
   stands-whole places sets word s = used-up alphabet scripts fit places word s.fits s.seen

@@ -1,5 +1,6 @@
 -- How many letters there are in all scripts together.
-use Rattle.std.proofs.Common.{◌≡◌, ◌≢◌, ℕ, zero, suc, ◌+◌, ◌<◌, ◌≤◌, inl, inr, List, [], ◌++◌, length, replicate, refl, sym, ap, ◌∙◌, arith, length-append, set, length-set, get_or-set_other, get_or-set_same}
+use Rattle.std.proofs.Common.{◌≡◌, ◌≢◌, ℕ, zero, suc, ◌+◌, ◌<◌, ◌≤◌, inl, inr, List, [], ◌++◌, length, replicate, refl, sym, ap, ◌∙◌, arith, length-append, set}
+use Rattle.std.proofs.Common.{length-set, get_or-set_other, get_or-set_same}
 use Rattle.std.proofs.lemmas.Bool.{cases_eq}
 use Rattle.std.proofs.lemmas.List.{get_or-replicate, length-replicate}
 use Rattle.za_script.specs.Scripts.{total}
@@ -22,7 +23,8 @@ length-le-total f (suc n) p l =
     ]
 
 -- one script that is longer by some letters makes so many letters more
-pub total-longer : (f g : ℕ → List ℕ) (n p more : ℕ) → p < n → length (g p) ≡ length (f p) + more → ((q : ℕ) → q ≢ p → length (g q) ≡ length (f q)) → total g n ≡ total f n + more
+pub total-longer : (f g : ℕ → List ℕ) (n p more : ℕ) → p < n → length (g p) ≡ length (f p) + more → ((q : ℕ) → q ≢ p → length (g q) ≡ length (f q)) →
+    total g n ≡ total f n + more
 total-longer f g zero p more l longer same = absurd (omega arith)
 total-longer f g (suc n) p more l longer same =
     elim (cases_eq p n) [
@@ -34,7 +36,8 @@ total-longer f g (suc n) p more l longer same =
     ]
 
 -- appending letters to a script makes so many letters more
-pub total_of-append : (scripts : List (List ℕ)) (p : ℕ) (w : List ℕ) → p < length scripts → total_of (set scripts p (script_of scripts p ++ w)) ≡ total_of scripts + length w
+pub total_of-append : (scripts : List (List ℕ)) (p : ℕ) (w : List ℕ) → p < length scripts →
+    total_of (set scripts p (script_of scripts p ++ w)) ≡ total_of scripts + length w
 total_of-append scripts p w l =
     let longer = script_of scripts p ++ w in
     let same : length (set scripts p longer) ≡ length scripts = length-set scripts p longer in
@@ -49,10 +52,12 @@ total-none f zero h = refl
 total-none f (suc n) h = let a = total-none f n (λ p l. h p (omega arith)) in let b = h n (omega arith) in omega arith
 
 pub total_of-empty : (n : ℕ) → total_of (replicate n []) ≡ 0
-total_of-empty n = total-none (script_of (replicate n [])) (length (replicate n [])) (λ p l. ap length (get_or-replicate n p [] [] (let e = length-replicate {A = List ℕ} n [] in omega (arith, l))))
+total_of-empty n = total-none (script_of (replicate n [])) (length (replicate n []))
+    (λ p l. ap length (get_or-replicate n p [] [] (let e = length-replicate {A = List ℕ} n [] in omega (arith, l))))
 
 -- scripts keep the limits with some letters more, where there is room for these
-pub AreScripts-append : (scripts : List (List ℕ)) (p : ℕ) (w : List ℕ) → p < length scripts → AreScripts scripts → total_of scripts + length w ≤ most_script_letters → AreScripts (set scripts p (script_of scripts p ++ w))
+pub AreScripts-append : (scripts : List (List ℕ)) (p : ℕ) (w : List ℕ) → p < length scripts → AreScripts scripts →
+    total_of scripts + length w ≤ most_script_letters → AreScripts (set scripts p (script_of scripts p ++ w))
 AreScripts-append scripts p w l limits room =
     let some = limits.some_process in
     let few = limits.few_processes in

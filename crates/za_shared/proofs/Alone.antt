@@ -1,5 +1,6 @@
 -- A firing whose participants let go of their records first.
-use Rattle.std.proofs.Common.{◌≡◌, ◌≢◌, ℕ, ◌+◌, ◌<◌, ◌≤◌, ◌==◌, ◌&&◌, Bool, true, false, cond, nat_lt, List, [], ◌∷◌, ◌++◌, length, map, slice_index, refl, sym, ap, subst}
+use Rattle.std.proofs.Common.{◌≡◌, ◌≢◌, ℕ, ◌+◌, ◌<◌, ◌≤◌, ◌==◌, ◌&&◌, Bool, true, false, cond, nat_lt, List, [], ◌∷◌, ◌++◌, length, map, slice_index, refl}
+use Rattle.std.proofs.Common.{sym, ap, subst}
 use Rattle.std.proofs.Common.{◌∙◌, arith, inl, inr, IsTrue}
 use Rattle.std.specs.Prelude.{count_by}
 use Rattle.std.specs.List.{All}
@@ -67,7 +68,8 @@ module _ (r : Records) (ok : AreRecords r) (free : r.own ≡ []) (s t : Shelf Lo
           (λ k h. subst (HasShape r.dfa.alphabet.processes r.dfa.states) (sym (fewer.values k h)) (ok.shaped k (was k h)));
       spares_shaped = shelved.shaped r.dfa.alphabet.processes r.dfa.states shape
           (fewer.shaped r.dfa.alphabet.processes r.dfa.states ok.shaped
-          (all-begin (HasShape r.dfa.alphabet.processes r.dfa.states) x (taken ∷ []) (subst (All (HasShape r.dfa.alphabet.processes r.dfa.states)) split ok.spares_shaped)));
+          (all-begin (HasShape r.dfa.alphabet.processes r.dfa.states) x (taken ∷ [])
+          (subst (All (HasShape r.dfa.alphabet.processes r.dfa.states)) split ok.spares_shaped)));
       whole =
           let a = ok.whole in
           let b = fewer.whole in

@@ -14,11 +14,11 @@ use Rattle.za_local.specs.Locals.{LocalState, AreLocalsAfter, AreAllLocalsAfter,
 use Rattle.za_local.proofs.Given.{locals-by-each}
 use Rattle.za_local.proofs.Inputs.{few-participants}
 use Rattle.za_local.proofs.LocalLaws.{others_keep_locals}
-use Rattle.za_records.specs.Shelf.{count}
+use Rattle.za_records.specs.Shelf.{Shelf, count}
 use Rattle.za_cache.specs.Lines.{LineKey, line_key, is_key}
 use Rattle.za_shared.specs.Holders.{no_local, value, values_at}
 use Rattle.za_shared.specs.Records.{Records, AreRecords, IsTransition, IsLine, IsRemembered, HasFired, locals_of}
-use Rattle.za_shared.specs.Private.Steps.{one, key_given, HaveMore, HasEntered, HasObtained, last_of}
+use Rattle.za_shared.specs.Private.Steps.{key_given, HasEntered, HasObtained, last_of}
 use Rattle.za_shared.proofs.Carrying.{count-more}
 use Rattle.za_shared.proofs.LineLists.{split-found, promoted-split, all-found, key-is}
 use Rattle.za_shared.proofs.Locals.{local-is, participants-after}
@@ -64,9 +64,9 @@ module _ (r : Records) (ok : AreRecords r) (a : ℕ) (la : a < length r.dfa.alph
   input-values = map-twice (λ p. slice_index r.keys p) (value r.shelf) (loc_of r.dfa.alphabet a)
 
   -- the output of a line
-  pub line-obtained : (new : Records) (key : ℕ) → lookup (is_key a inputs) r.lines ≡ Some key → HaveMore r.shelf new.shelf (one key) →
+  pub line-obtained : (new : Records) (key : ℕ) → lookup (is_key a inputs) r.lines ≡ Some key → new.shelf ≡ r.shelf →
       new ≡ record r { shelf = new.shelf; own = key ∷ []; lines = promoted (is_key a inputs) r.lines } → HasObtained r new a
-  line-obtained new key found more is =
+  line-obtained new key found same is =
       let s = split-found (is_key a inputs) r.lines key found in
       let k : s.0.key ≡ line_key a inputs = key-is a inputs s.0.key s.0.passes in
       let line : IsLine r.dfa r.shelf (line_key a inputs, key) = subst (λ l. IsLine r.dfa r.shelf l) (λ i. (k i, s.1 i))
@@ -77,8 +77,9 @@ module _ (r : Records) (ok : AreRecords r) (a : ℕ) (la : a < length r.dfa.alph
         dfa = ap (λ (x : Records). x.dfa) is;
         cache = ap (λ (x : Records). x.cache) is;
         keys = ap (λ (x : Records). x.keys) is;
-        transition = λ w h x p. more.values key ∙ line.transition w (subst (AreLocalsAfter r.dfa w (loc_of r.dfa.alphabet a)) (sym input-values) h) x p;
-        values = λ n o m. more.values n;
+        transition = λ w h x p. ap (λ (s : Shelf LocalState). value s key) same ∙ line.transition w
+            (subst (AreLocalsAfter r.dfa w (loc_of r.dfa.alphabet a)) (sym input-values) h) x p;
+        values = λ n o m. ap (λ (s : Shelf LocalState). value s n) same;
         lines = λ c. inl (
           s.0.before ++ s.0.after,
           ap (λ (x : Records). x.lines) is ∙ promoted-split (is_key a inputs) r.lines s.0
@@ -119,7 +120,7 @@ module _ (r : Records) (ok : AreRecords r) (a : ℕ) (la : a < length r.dfa.alph
 
   -- the participants have the record
   module _ (s t : Records) (key : ℕ) (first : HasObtained r s a) (own : s.own ≡ key ∷ [])
-      (rest : t ≡ record s { shelf = t.shelf; own = []; keys = t.keys; spares = t.spares }) (done : AreRecords t) (before : AreRecords s)
+      (rest : t ≡ record s { shelf = t.shelf; own = []; keys = t.keys; spares = t.spares }) (done : AreRecords t)
       (keys : (p : ℕ) → slice_index t.keys p ≡ key_given (loc_of r.dfa.alphabet a) key (length s.keys) s.keys p)
       (values : (k : ℕ) → 0 < count t.shelf k → (0 < count s.shelf k) × (value t.shelf k ≡ value s.shelf k)) where
     same-key : key ≡ first.key

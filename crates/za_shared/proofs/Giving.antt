@@ -1,6 +1,6 @@
 -- What handing out a key does.
-use Rattle.std.proofs.Common.{◌≡◌, ◌≢◌, ℕ, ◌+◌, ◌<◌, ◌==◌, ◌&&◌, true, false, cond, nat_lt, List, length, set, slice_index, sym, ap, subst, ◌∙◌, arith, inl}
-use Rattle.std.proofs.Common.{inr, get_or-set_same, get_or-set_other}
+use Rattle.std.proofs.Common.{◌≡◌, ◌≢◌, ℕ, ◌+◌, ◌<◌, ◌≤◌, ◌==◌, ◌&&◌, true, false, cond, nat_lt, List, length, set, slice_index, sym, ap, subst, ◌∙◌, arith}
+use Rattle.std.proofs.Common.{inl, inr, get_or-set_same, get_or-set_other}
 use Rattle.std.specs.Prelude.{count_by}
 use Rattle.std.proofs.lemmas.Bool.{cases_eq, cases_lt, cond-true, cond-false, lt-ltb, le-ltb}
 use Rattle.std.proofs.lemmas.List.Sums.{sum_by-set}
@@ -17,6 +17,20 @@ count-set k keys p v l = let e = sum_by-set (λ (x : ℕ). cond {A = ℕ} (x == 
 -- nobody has it at first
 pub given-none : (ps : List ℕ) (key : ℕ) (keys : List ℕ) (q : ℕ) → slice_index keys q ≡ key_given ps key 0 keys q
 given-none ps key keys q = sym (cond-false (nat_lt q 0 && has ps q) key (slice_index keys q) (ap (λ b. b && has ps q) (le-ltb q 0 (omega arith))))
+
+-- none of them stands between a start and p
+pub given-skip : (ps : List ℕ) (key : ℕ) (keys : List ℕ) (start p : ℕ) → start ≤ p → ((q : ℕ) → start ≤ q → q < p → has ps q ≡ false) → (q : ℕ) →
+    key_given ps key start keys q ≡ key_given ps key p keys q
+given-skip ps key keys start p le none q = elim (cases_lt q start) [
+  | inl a ↦ ap (λ b. cond (b && has ps q) key (slice_index keys q)) (lt-ltb q start a ∙ sym (lt-ltb q p (omega arith)))
+  | inr a ↦ elim (cases_lt q p) [
+    | inl b ↦
+        let l : (nat_lt q start && has ps q) ≡ false = ap (λ b. b && has ps q) (le-ltb q start a) in
+        let r : (nat_lt q p && has ps q) ≡ false = ap (λ b. b && has ps q) (lt-ltb q p b) ∙ none q a b in
+        cond-false (nat_lt q start && has ps q) key (slice_index keys q) l ∙ sym (cond-false (nat_lt q p && has ps q) key (slice_index keys q) r)
+    | inr b ↦ ap (λ b. cond (b && has ps q) key (slice_index keys q)) (le-ltb q start a ∙ sym (le-ltb q p b))
+  ]
+]
 
 module _ (ps : List ℕ) (key p : ℕ) (keys : List ℕ) where
   pub given-at : key_given ps key p keys p ≡ slice_index keys p
@@ -40,7 +54,8 @@ module _ (ps : List ℕ) (key p : ℕ) (keys : List ℕ) where
       ]
 
   -- it is not
-  pub given-out : (q : ℕ) (now : List ℕ) → has ps p ≡ false → slice_index now q ≡ key_given ps key p keys q → slice_index now q ≡ key_given ps key (p + 1) keys q
+  pub given-out : (q : ℕ) (now : List ℕ) → has ps p ≡ false → slice_index now q ≡ key_given ps key p keys q → slice_index now q ≡ key_given ps key
+      (p + 1) keys q
   given-out q now f e = elim (cases_eq q p) [
     | inl is ↦
         let c : (nat_lt q (p + 1) && has ps q) ≡ false = ap (λ b. b && has ps q) (lt-ltb q (p + 1) (omega arith)) ∙ ap (has ps) is ∙ f in

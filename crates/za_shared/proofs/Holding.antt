@@ -1,5 +1,6 @@
 -- How many of some processes hold a key.
-use Rattle.std.proofs.Common.{◌≡◌, ℕ, zero, suc, ◌+◌, ◌<◌, ◌≤◌, ◌==◌, not, Bool, true, false, cond, List, [], ◌∷◌, ◌++◌, length, take, slice_index, refl, sym, ap}
+use Rattle.std.proofs.Common.{◌≡◌, ℕ, zero, suc, ◌+◌, ◌<◌, ◌≤◌, ◌==◌, not, Bool, true, false, cond, List, [], ◌∷◌, ◌++◌, length, take, slice_index, refl, sym}
+use Rattle.std.proofs.Common.{ap}
 use Rattle.std.proofs.Common.{◌∙◌, arith, inl, inr, eq-eqb}
 use Rattle.std.specs.Prelude.{count_by}
 use Rattle.std.proofs.lemmas.Bool.{cases_Bool, cases_eq, cond-true, cond-false}
@@ -20,7 +21,8 @@ module _ (keys : List ℕ) (s : Procs) (k : ℕ) where
   held-none = ap (λ ps. held_by keys ps k) (members_below-zero s)
 
   -- one process more is looked at
-  pub held-in : (n : ℕ) → n < 16 → has (members s) n ≡ true → held_by keys (members_below s (n + 1)) k ≡ held_by keys (members_below s n) k + one (slice_index keys n) k
+  pub held-in : (n : ℕ) → n < 16 → has (members s) n ≡ true → held_by keys (members_below s (n + 1)) k ≡ held_by keys (members_below s n) k + one
+      (slice_index keys n) k
   held-in n l h =
       ap (λ ps. held_by keys ps k) (members_below-more s n l ∙ ap (λ xs. members_below s n ++ xs) (cond-true (has (members s) n) (n ∷ []) [] h))
       ∙ sum_by_push weight (members_below s n) n

@@ -16,3 +16,5 @@ pub mod Shelving
 pub mod Marking
 pub mod Holding
 pub mod Alone
+pub mod Leaving
+pub mod Again

@@ -55,7 +55,8 @@ named-one inputs output k h = elim (cases_Bool (is_named inputs output k)) [
 ]
 
 module _ (r : Records) (ok : AreRecords r) (s t : Shelf LocalState) (spares : List LocalState) (line : LineKey × ℕ) (old new : Lines) (kept : Kept)
-    (rows : r.lines ≡ old.lines) (cache : r.cache ≡ old.capacity) (more : HaveMore r.shelf s (named_by_line line.0.inputs line.1)) (h : HasKept old new line kept)
+    (rows : r.lines ≡ old.lines) (cache : r.cache ≡ old.capacity) (more : HaveMore r.shelf s (named_by_line line.0.inputs line.1))
+    (h : HasKept old new line kept)
     (live : (k : ℕ) → is_named line.0.inputs line.1 k ≡ true → 0 < count r.shelf k) where
   pub kept-live : (k : ℕ) → 0 < named_by kept k → 0 < count s k
   kept-live k n =

@@ -86,7 +86,8 @@ module _ (s t : Shelf LocalState) (before : List LocalState) (made : LocalState)
     pub shelved-new : live t ≡ live s + 1 → ((k : ℕ) → passes (λ x. same_local x made) (at s k) ≡ false) → HasShelved s t before before made n key
     shelved-new l none = record {
       counts = λ k. elim (cases_eq k key) [
-        | inl same ↦ let a = ap count_of (ap (at t) same ∙ ch.here) in let b = ap count_of (ap (at s) same ∙ vacant) in let o = more-self key k n same in omega arith
+        | inl same ↦ let a = ap count_of (ap (at t) same ∙ ch.here) in let b = ap count_of (ap (at s) same ∙ vacant) in let o = more-self key k n same in
+            omega arith
         | inr d ↦ let a = ap count_of (ch.others k d) in let o = more-other key k n d in omega arith
       ];
       is = put-is;

@@ -1,6 +1,6 @@
 //! Holders of records: who begins to hold one, and who lets it go.
 
-ghost use Rattle.std.specs.Prelude.{◌≡◌, ◌≢◌, ◌<◌, ◌≤◌, ◌+◌, ◌^◌, ◌⊎◌, ◌∷◌, ◌++◌, [], ℕ};
+ghost use Rattle.std.specs.Prelude.{◌≡◌, ◌≢◌, ◌==◌, ◌<◌, ◌≤◌, ◌+◌, ◌^◌, ◌⊎◌, ◌∷◌, ◌++◌, [], ℕ, cond, count_by};
 ghost use Rattle.std.specs.Prelude.{IsTrue, MatchBool, true, false, length, take, slice_index, vec_capacity};
 ghost use Rattle.za_alpha.specs.Words.{has};
 ghost use Rattle.za_records.specs.Shelf.{count, live};
@@ -22,6 +22,33 @@ pub(crate) fn hold(shelf: &mut Shelf<Local>, key: u32)
     ensures { HaveMore shelf.old shelf.new (one key) }
 {
     shelf.hold(Key(key), 1);
+}
+
+/// So many holders more.
+pub(crate) fn hold_for(shelf: &mut Shelf<Local>, key: u32, holders: u32)
+    requires live { 0 < count shelf.old key }
+    requires few { count shelf.old key + holders < 2 ^ 32 }
+    ensures { HaveMore shelf.old shelf.new (λ k. cond (key == k) holders 0) }
+{
+    shelf.hold(Key(key), holders);
+}
+
+/// One holder fewer of a record that has others too.
+fn leave_one(shelf: &mut Shelf<Local>, key: u32)
+    requires { 1 < count shelf.old key }
+    ensures { HaveMore shelf.new shelf.old (one key) }
+{
+    shelf.release_one(Key(key));
+}
+
+/// One holder fewer of each of these records, as often as it stands there. All have other holders too.
+pub(crate) fn leave(shelf: &mut Shelf<Local>, keys: &[u32])
+    requires { (k : ℕ) → IsTrue (has keys.now k) → count_by (λ x. x == k) keys.now < count shelf.old k }
+    ensures { HaveMore shelf.new shelf.old (λ k. count_by (λ x. x == k) keys.now) }
+{
+    for i in 0..keys.len() {
+        leave_one(shelf, keys[i]);
+    }
 }
 
 /// One holder fewer. A record that has no holder is spare from then on.

@@ -1,6 +1,6 @@
 //! The keys of all processes: those of a letter's participants, and a new one for them.
 
-ghost use Rattle.std.specs.Prelude.{◌≡◌, ◌<◌, ◌≤◌, ◌+◌, ◌^◌, ◌==◌, ◌↔◌, ℕ, IsTrue};
+ghost use Rattle.std.specs.Prelude.{◌≡◌, ◌<◌, ◌≤◌, ◌+◌, ◌^◌, ◌==◌, ◌↔◌, ℕ, IsTrue, []};
 ghost use Rattle.std.specs.Prelude.{Some, length, map, count_by, slice_get, slice_index, vec_capacity};
 ghost use Rattle.za_alpha.specs.Limits.{most_processes};
 ghost use Rattle.za_alpha.specs.Words.{has};
@@ -11,26 +11,24 @@ ghost use Rattle.za_shared.specs.Holders.{value, values_at};
 ghost use Rattle.za_shared.specs.Private.Steps.{one, key_given, held_by, HaveChanged, HaveFewer, HaveTurned};
 
 use crate::holders::{hold, let_go, let_go_onto};
-use smallvec::SmallVec;
-use std::alloc::Global;
 use za_alpha::Procs;
 use za_cache::Keys;
 use za_local::{Bench, Local};
 use za_records::{Key, Shelf};
 
-/// The keys of these processes, in rising order. It takes no memory.
-pub(crate) fn keys_of(alloc: Global, keys: &[u32], processes: Procs) -> Keys
+/// Puts the keys of these processes, in rising order, into an empty list. It takes no memory.
+pub(crate) fn choose(chosen: &mut Keys, keys: &[u32], processes: Procs)
+    requires empty { chosen.old.items ≡ [] }
+    requires room { most_processes ≤ chosen.old.capacity }
     requires few { length keys.now ≤ most_processes }
     requires within { (p : ℕ) → IsTrue (has (members processes) p) → p < length keys.now }
-    ensures { result.items ≡ map (λ p. slice_index keys.now p) (members processes) }
+    ensures { chosen.new.items ≡ map (λ p. slice_index keys.now p) (members processes) }
 {
-    let mut chosen = SmallVec::new(alloc);
-    for p in 0..keys.len() {
-        if processes.has(p) {
-            chosen.push_reserved(keys[p]);
-        }
+    let mut start = 0;
+    'members: while let Some(p) = processes.least_from(start) {
+        chosen.push_reserved(keys[p]);
+        start = p + 1;
     }
-    chosen
 }
 
 /// Puts the local states of these processes on the bench, in rising order, in place of what it had.
@@ -86,10 +84,10 @@ pub(crate) fn turn(keys: &mut [u32], processes: Procs, key: u32)
     requires within { (p : ℕ) → IsTrue (has (members processes) p) → p < length keys.old }
     ensures { HaveTurned keys.old keys.new (members processes) key }
 {
-    for p in 0..keys.len() {
-        if processes.has(p) {
-            keys[p] = key;
-        }
+    let mut start = 0;
+    'members: while let Some(p) = processes.least_from(start) {
+        keys[p] = key;
+        start = p + 1;
     }
 }
 

@@ -3,7 +3,6 @@
 ghost use Rattle.std.specs.Prelude.{◌≡◌, ◌<◌, ◌≤◌, ◌+◌, ℕ, List, [], ◌∷◌, Some, None, IsTrue, MatchBool, IfOk, IfSome};
 ghost use Rattle.std.specs.Prelude.{length, map, slice_index};
 ghost use Rattle.std.specs.Map.{lookup};
-ghost use Rattle.lru.specs.LruCache.{promoted};
 ghost use Rattle.za_alpha.specs.Limits.{most_processes};
 ghost use Rattle.za_alpha.specs.Words.{has};
 ghost use Rattle.za_alpha.specs.Procs.{members};
@@ -16,17 +15,18 @@ ghost use Rattle.za_cache.specs.Lines.{is_key};
 ghost use Rattle.za_shared.specs.Holders.{value, values_at};
 ghost use Rattle.za_shared.specs.Records.{bound, locals_of, AreRecords, AreOpened, AreOfAWord};
 ghost use Rattle.za_shared.specs.Records.{IsTransition, IsRemembered, HasFired};
-ghost use Rattle.za_shared.specs.Private.Steps.{one, key_given, last_of, IsMade, IsUsable};
-ghost use Rattle.za_shared.specs.Private.Steps.{HaveMore, HasAdopted, HasEntered, HasObtained};
+ghost use Rattle.za_shared.specs.Private.Steps.{key_given, last_of, IsMade, IsUsable};
+ghost use Rattle.za_shared.specs.Private.Steps.{HasAdopted, HasEntered};
 
-use crate::holders::{hold, hold_line, let_go, let_go_kept, shelve};
+use crate::holders::{hold_for, hold_line, leave, let_go, let_go_kept, shelve};
 use crate::marks::mark_of;
 use crate::opening::{openings, rows_for};
-use crate::seats::{are_on, gather, gather_all, give, keys_of, turn, vacate};
+use crate::seats::{are_on, choose, gather, gather_all, give, turn, vacate};
+use smallvec::SmallVec;
 use std::alloc::Global;
 use std::marker::Model;
 use za_alpha::{Letter, OutOfMemory, Procs};
-use za_cache::Rows;
+use za_cache::{RowKey, Rows};
 use za_dfa::Closed;
 use za_local::{Bench, Local, opening, transit, verdict};
 use za_records::{Key, Shelf};
@@ -156,29 +156,27 @@ impl SharedLocals {
         verdict(&self.closed, &self.bench)
     }
 
-    /// Looks the transition up. Where there is a line, the call holds its output from then on, and
-    /// the line goes to the front.
-    fn recall(&mut self, a: Letter, inputs: &[u32]) -> bool
-        requires few { length inputs.now ≤ most_processes }
+    /// Fires a letter by its line, where there is one: the participants get its output. It names their
+    /// records, so all of these stay live. Where there is no line all is as it was.
+    fn fire_again(&mut self, line: &RowKey, participants: Procs) -> bool
+        requires letter { line.now.letter < length self.old.dfa.alphabet.letters }
+        requires participants { members participants ≡ loc_of self.old.dfa.alphabet line.now.letter }
         requires free { self.old.own ≡ [] }
+        requires inputs { line.now.inputs.items ≡ map (λ p. slice_index self.old.keys p) (members participants) }
         ensures { MatchBool result
-            ((key : ℕ) × (lookup (is_key a.0 inputs.now) self.old.lines ≡ Some key) ×
-            HaveMore self.old.shelf self.new.shelf (one key) ×
-            (self.new ≡ record self.old {
-              shelf = self.new.shelf;
-              own = key ∷ [];
-              lines = promoted (is_key a.0 inputs.now) self.old.lines;
-            }))
-            ((lookup (is_key a.0 inputs.now) self.old.lines ≡ None) × (self.new ≡ self.old)) }
+            ((HasFired self.old self.new line.now.letter) × (AreRecords self.new))
+            ((lookup (is_key line.now.letter line.now.inputs.items) self.old.lines ≡ None) × (self.new ≡ self.old)) }
     {
         let Some(rows) = &mut self.rows else {
             return false;
         };
-        let Some(key) = rows.find(a.0, inputs) else {
+        let Some(key) = rows.find_row(line) else {
             return false;
         };
-        hold(&mut self.shelf, key);
-        self.own = Some(key);
+        let inputs = line.inputs.as_slice();
+        hold_for(&mut self.shelf, key, inputs.len() as u32);
+        leave(&mut self.shelf, inputs);
+        turn(&mut self.keys, participants, key);
         true
     }
 
@@ -314,23 +312,26 @@ impl SharedLocals {
         self.own = None;
     }
 
-    /// The call holds the record of the transition from then on: the output of its line where there is
-    /// one, and else what was made or is computed now.
-    fn obtain(&mut self, a: Letter, participants: Procs, made: Option<Made>)
+    /// Fires a letter that has no line: what was made is used or the transition computed, and its line is
+    /// kept.
+    fn fire_anew(&mut self, a: Letter, participants: Procs, inputs: &[u32], made: Option<Made>)
         requires letter { a.0 < length self.old.dfa.alphabet.letters }
         requires participants { members participants ≡ loc_of self.old.dfa.alphabet a.0 }
         requires free { self.old.own ≡ [] }
         requires locals { AreOfAWord self.old }
         requires made { IfSome made (λ m. IsMade self.old.dfa a.0 m.bench.now m.output.now) }
-        ensures obtained { HasObtained self.old self.new a.0 }
-        ensures records { AreRecords self.old }
+        requires inputs { inputs.now ≡ map (λ p. slice_index self.old.keys p) (members participants) }
+        requires absent { lookup (is_key a.0 inputs.now) self.old.lines ≡ None }
+        ensures fired { HasFired self.old self.new a.0 }
+        ensures records { AreRecords self.new }
     {
-        let inputs = keys_of(*self.keys.allocator(), &self.keys, participants);
-        if self.recall(a, inputs.as_slice()) {
-            return;
-        }
+        let _before = self.closed();
         self.take_or_compute(a, participants, made);
-        self.enter(a, inputs.as_slice());
+        self.enter(a, inputs);
+        if let Some(key) = self.own {
+            self.hand_over(participants, key);
+            let _closed = self.closed();
+        }
     }
 
     /// What was made, where its bench has the participants' local states.
@@ -409,11 +410,15 @@ impl SharedLocals {
             self.fire_alone(a, participants, made);
             return;
         }
-        self.obtain(a, participants, made);
-        if let Some(key) = self.own {
-            self.hand_over(participants, key);
-            let _closed = self.closed();
+        let mut line = RowKey {
+            letter: a.0,
+            inputs: SmallVec::new(*self.keys.allocator()),
+        };
+        choose(&mut line.inputs, &self.keys, participants);
+        if self.fire_again(&line, participants) {
+            return;
         }
+        self.fire_anew(a, participants, line.inputs.as_slice(), made);
     }
 
     /// Fires a letter: its participants get one local state, the transition of theirs, and all others

@@ -16,7 +16,8 @@ not_true true h = absurd (let z : false ≡ true = h in cc)
 not_true false h = refl
 
 -- nobody is missing exactly if all wait
-pub none-missing : (waits : ℕ → Bool) (ps missing : List ℕ) → ((p : ℕ) → has missing p ≡ (has ps p && not (waits p))) → ((missing ≡ []) ↔ (list_all waits ps ≡ true))
+pub none-missing : (waits : ℕ → Bool) (ps missing : List ℕ) → ((p : ℕ) → has missing p ≡ (has ps p && not (waits p))) →
+    ((missing ≡ []) ↔ (list_all waits ps ≡ true))
 none-missing waits ps missing h = (
   λ e. elim (cases_Bool (list_all waits ps)) [
     | inl t ↦ t

@@ -16,7 +16,8 @@ use Rattle.za_table.specs.Tables.{machine_of}
 use Rattle.za_table.specs.Private.Inside.{given_in, state_in, IsTableInside, IsEndedInside}
 
 module _ (t : Table.Inside) (ok : IsTableInside t) (answer : Answer) (over : IsOver (machine_of (given_in t)) (state_in t))
-    (value : answer ≡ answer_at (automaton_of t.shared.dfa) (state_in t)) (correct : IsAnswer (loc_of t.shared.dfa.alphabet) (automaton_of t.shared.dfa) (script_of t.scripts) answer) where
+    (value : answer ≡ answer_at (automaton_of t.shared.dfa) (state_in t)) (correct : IsAnswer (loc_of t.shared.dfa.alphabet) (automaton_of t.shared.dfa)
+    (script_of t.scripts) answer) where
   abbrev pub ended : List ℕ → Ended.Inside
   ended word = record {
     shared = t.shared;

@@ -7,7 +7,8 @@ use Rattle.za_alpha.specs.Letters.{numbers}
 use Rattle.za_machine.specs.Machine.{is_in, without}
 use Rattle.za_machine.proofs.States.{at-without, length-without}
 
-pub without_is : (ps : List ℕ) (bs cs : List Bool) → length cs ≡ length bs → ((p : ℕ) → p < length bs → is_in cs p ≡ (is_in bs p && not (has ps p))) → cs ≡ without ps 0 bs
+pub without_is : (ps : List ℕ) (bs cs : List Bool) → length cs ≡ length bs → ((p : ℕ) → p < length bs → is_in cs p ≡ (is_in bs p && not (has ps p))) →
+    cs ≡ without ps 0 bs
 without_is ps bs cs e h = ext_get_or false cs (without ps 0 bs) (e ∙ sym (length-without ps bs)) (λ p l. h p (omega arith) ∙ sym (at-without ps bs p))
 
 pub journal-more : (xs ys : List Letter) (a : Letter) → ys ≡ xs ++ a ∷ [] → numbers ys ≡ numbers xs ++ a.0 ∷ []

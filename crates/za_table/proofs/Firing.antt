@@ -1,5 +1,6 @@
 -- A table after a firing.
-use Rattle.std.proofs.Common.{◌≡◌, ℕ, ◌<◌, ◌≤◌, true, List, [], ◌∷◌, ◌++◌, Bool, Option, length, slice_index, slice_set, refl, sym, ap, subst, ◌∙◌, arith, length-append}
+use Rattle.std.proofs.Common.{◌≡◌, ℕ, ◌<◌, ◌≤◌, true, List, [], ◌∷◌, ◌++◌, Bool, Option, length, slice_index, slice_set, refl, sym, ap, subst, ◌∙◌, arith}
+use Rattle.std.proofs.Common.{length-append}
 use Rattle.std.proofs.lemmas.List.{length-map}
 use Rattle.za_alpha.specs.declared.word.Letter.{Letter}
 use Rattle.za_alpha.specs.Letters.{numbers}
@@ -40,7 +41,8 @@ module _ (t : Inside) (ok : IsTableInside t) (a : ℕ) (h : IsAllowed (machine_o
       let l = long in omega arith
 
   -- the counts are small
-  pub counts-le : (p : ℕ) → has (loc_of t.shared.dfa.alphabet a) p ≡ true → slice_index t.progress.counts.items p ≤ total (script_of t.scripts) t.shared.dfa.alphabet.processes
+  pub counts-le : (p : ℕ) → has (loc_of t.shared.dfa.alphabet a) p ≡ true → slice_index t.progress.counts.items p ≤ total (script_of t.scripts)
+      t.shared.dfa.alphabet.processes
   counts-le p k =
       let m = machine_of (given_in t) in
       let c = state_in t in
@@ -49,16 +51,21 @@ module _ (t : Inside) (ok : IsTableInside t) (a : ℕ) (h : IsAllowed (machine_o
       let e = ok.progress.counts p below in
       let l = length-le-total m.scripts m.processes p below in omega arith
 
-  module _ (hands : List (Option ℕ)) (moved : IsMachineState (machine_of (given_in t)) (fire (loc_of t.shared.dfa.alphabet) a (state_in t)) × AreInHand (machine_of (given_in t)) (fire (loc_of t.shared.dfa.alphabet) a (state_in t)) hands)
+  module _ (hands : List (Option ℕ)) (moved : IsMachineState (machine_of (given_in t)) (fire (loc_of t.shared.dfa.alphabet) a (state_in t)) × AreInHand
+      (machine_of (given_in t)) (fire (loc_of t.shared.dfa.alphabet) a (state_in t)) hands)
       (r : Records) (q : Progress) (f : HasFired t.shared r a) (records : AreRecords r)
-      (more : HasAppended t.progress q a (label_at r.dfa (numbers t.progress.journal.items ++ a ∷ []) (length t.progress.journal.items)) (loc_of r.dfa.alphabet a)) where
-    here : HasAppended t.progress q a (label_at t.shared.dfa (numbers t.progress.journal.items ++ a ∷ []) (length t.progress.journal.items)) (loc_of t.shared.dfa.alphabet a)
-    here = subst (λ (d : CompleteDfa). HasAppended t.progress q a (label_at d (numbers t.progress.journal.items ++ a ∷ []) (length t.progress.journal.items)) (loc_of d.alphabet a)) f.dfa more
+      (more : HasAppended t.progress q a (label_at r.dfa (numbers t.progress.journal.items ++ a ∷ []) (length t.progress.journal.items))
+      (loc_of r.dfa.alphabet a)) where
+    here : HasAppended t.progress q a (label_at t.shared.dfa (numbers t.progress.journal.items ++ a ∷ []) (length t.progress.journal.items))
+        (loc_of t.shared.dfa.alphabet a)
+    here = subst (λ (d : CompleteDfa). HasAppended t.progress q a (label_at d (numbers t.progress.journal.items ++ a ∷ []) (length t.progress.journal.items))
+        (loc_of d.alphabet a)) f.dfa more
 
     same : record { dfa = r.dfa; scripts = t.scripts } ≡ given_in t
     same = ap (λ (d : CompleteDfa). record { dfa = d; scripts = t.scripts }) f.dfa
 
-    pub state-after : record { journal = numbers q.journal.items; arrived = q.arrived.items; ended = q.ended.items } ≡ fire (loc_of t.shared.dfa.alphabet) a (state_in t)
+    pub state-after : record { journal = numbers q.journal.items; arrived = q.arrived.items; ended = q.ended.items } ≡ fire (loc_of t.shared.dfa.alphabet) a
+        (state_in t)
     state-after =
         let make : List ℕ → List Bool → List Bool → State = λ w x y. record { journal = w; arrived = x; ended = y } in
         ap (λ w. make w q.arrived.items q.ended.items) here.journal ∙ ap (λ x. make (numbers t.progress.journal.items ++ a ∷ []) x q.ended.items) here.arrived
@@ -79,14 +86,16 @@ module _ (t : Inside) (ok : IsTableInside t) (a : ℕ) (h : IsAllowed (machine_o
 
     pub progress-after : IsProgress (machine_of (record { dfa = r.dfa; scripts = t.scripts })) q
     progress-after = subst (λ (g : Given). IsProgress (machine_of g) q) (sym same)
-        (appended (machine_of (given_in t)) t.progress q a (label_at t.shared.dfa (numbers t.progress.journal.items ++ a ∷ []) (length t.progress.journal.items))
+        (appended (machine_of (given_in t)) t.progress q a (label_at t.shared.dfa (numbers t.progress.journal.items ++ a ∷ [])
+        (length t.progress.journal.items))
         (machine (table_in t) ok.table) ok.progress here ok.table.locals.word h.0 refl)
 
     pub missing-after : (all : Procs) → members all ≡ loc_of t.shared.dfa.alphabet a →
         AreAllMissing (machine_of (record { dfa = r.dfa; scripts = t.scripts }))
         (record { journal = numbers q.journal.items; arrived = q.arrived.items; ended = q.ended.items }) (slice_set t.missing.items a all)
     missing-after all are =
-        subst (λ (g : Given). AreAllMissing (machine_of g) (record { journal = numbers q.journal.items; arrived = q.arrived.items; ended = q.ended.items }) (slice_set t.missing.items a all))
+        subst (λ (g : Given). AreAllMissing (machine_of g) (record { journal = numbers q.journal.items; arrived = q.arrived.items; ended = q.ended.items })
+        (slice_set t.missing.items a all))
         (sym same)
         (subst (λ (c : State). AreAllMissing (machine_of (given_in t)) c (slice_set t.missing.items a all)) (sym state-after)
         (missing-fired (machine_of (given_in t)) (state_in t) a h.1 t.missing.items ok.missing all are h.0))

@@ -33,11 +33,13 @@ module _ (t : TableState) (ok : IsTable t) where
   sound = reached-sound (machine_of t.given) t.state ok.reached
 
   pub happens : (e : Event) → IsAllowed (machine_of t.given) t.state e → IsFree t.hands e →
-      IsMachineState (machine_of t.given) (after_event (machine_of t.given) t.state e) × AreInHand (machine_of t.given) (after_event (machine_of t.given) t.state e) t.hands
+      IsMachineState (machine_of t.given) (after_event (machine_of t.given) t.state e) × AreInHand (machine_of t.given)
+      (after_event (machine_of t.given) t.state e) t.hands
   happens e k f = moves_keep_hands (machine_of t.given) t.state t.hands (Happen e) machine ok.reached ok.in_hand (k, f)
 
   pub settled : (a p : ℕ) → hand t.hands a ≡ Some p →
-      IsMachineState (machine_of t.given) (fire (loc_of t.given.dfa.alphabet) a t.state) × AreInHand (machine_of t.given) (fire (loc_of t.given.dfa.alphabet) a t.state) (slice_set t.hands a None)
+      IsMachineState (machine_of t.given) (fire (loc_of t.given.dfa.alphabet) a t.state) × AreInHand (machine_of t.given)
+      (fire (loc_of t.given.dfa.alphabet) a t.state) (slice_set t.hands a None)
   settled a p h = moves_keep_hands (machine_of t.given) t.state t.hands (Settle a p) machine ok.reached ok.in_hand h
 
   pub arrives : (p : ℕ) → IsAllowed (machine_of t.given) t.state (Arrive p) → IsTable (record t { state = arrive p t.state })
@@ -61,19 +63,25 @@ module _ (t : TableState) (ok : IsTable t) where
       record { fit = ok.fit; reached = k.0; in_hand = k.1; dfa = ok.dfa; locals = ok.locals; records = ok.records; free = ok.free }
 
   pub fires : (u : TableState) (a : ℕ) (hands : List (Option ℕ)) →
-      IsMachineState (machine_of t.given) (fire (loc_of t.given.dfa.alphabet) a t.state) × AreInHand (machine_of t.given) (fire (loc_of t.given.dfa.alphabet) a t.state) hands →
-      u.given ≡ t.given → u.state ≡ fire (loc_of t.given.dfa.alphabet) a t.state → u.hands ≡ hands → u.shared.dfa ≡ u.given.dfa → HasFired t.shared u.shared a → AreRecords u.shared → IsTable u
+      IsMachineState (machine_of t.given) (fire (loc_of t.given.dfa.alphabet) a t.state) × AreInHand (machine_of t.given)
+      (fire (loc_of t.given.dfa.alphabet) a t.state) hands →
+      u.given ≡ t.given → u.state ≡ fire (loc_of t.given.dfa.alphabet) a t.state → u.hands ≡ hands → u.shared.dfa ≡ u.given.dfa → HasFired t.shared u.shared
+      a → AreRecords u.shared → IsTable u
   fires u a hands moved g s k d f r =
       let n = fire (loc_of t.given.dfa.alphabet) a t.state in
-      let here : AreAllLocalsAfter t.shared.dfa t.state.journal (locals_of t.shared) = subst (λ (x : CompleteDfa). AreAllLocalsAfter x t.state.journal (locals_of t.shared)) (sym ok.dfa) ok.locals in
+      let here : AreAllLocalsAfter t.shared.dfa t.state.journal (locals_of t.shared) = subst
+      (λ (x : CompleteDfa). AreAllLocalsAfter x t.state.journal (locals_of t.shared)) (sym ok.dfa) ok.locals in
       record {
         fit = subst (λ (x : Given). FitAlphabet x.dfa.alphabet x.scripts) (sym g) ok.fit;
-        reached = subst (λ (x : Given). IsMachineState (machine_of x) u.state) (sym g) (subst (λ (x : State). IsMachineState (machine_of t.given) x) (sym s) moved.0);
+        reached = subst (λ (x : Given). IsMachineState (machine_of x) u.state) (sym g)
+            (subst (λ (x : State). IsMachineState (machine_of t.given) x) (sym s) moved.0);
         in_hand = subst (λ (x : Given). AreInHand (machine_of x) u.state u.hands) (sym g)
-            (subst (λ (x : State). AreInHand (machine_of t.given) x u.hands) (sym s) (subst (λ (x : List (Option ℕ)). AreInHand (machine_of t.given) n x) (sym k) moved.1));
+            (subst (λ (x : State). AreInHand (machine_of t.given) x u.hands) (sym s) (subst (λ (x : List (Option ℕ)). AreInHand (machine_of t.given) n x)
+            (sym k) moved.1));
         dfa = d;
         locals = subst (λ (x : CompleteDfa). AreAllLocalsAfter x u.state.journal (locals_of u.shared)) d
-            (subst (λ (w : List ℕ). AreAllLocalsAfter u.shared.dfa w (locals_of u.shared)) (sym (ap (λ (x : State). x.journal) s)) (f.locals t.state.journal here));
+            (subst (λ (w : List ℕ). AreAllLocalsAfter u.shared.dfa w (locals_of u.shared)) (sym (ap (λ (x : State). x.journal) s))
+            (f.locals t.state.journal here));
         records = r;
         free = f.free;
       }

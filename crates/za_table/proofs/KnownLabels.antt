@@ -14,7 +14,8 @@ use Rattle.za_local.specs.Locals.{local_after}
 
 -- its entry for itself is the event's number
 pub own-entry : (d : CompleteDfa) (w : List ℕ) (a x : ℕ) → x < d.alphabet.processes → has (loc_of d.alphabet a) x ≡ true →
-    slice_index (local_after d (w ++ a ∷ []) x).gossip.primary x ≡ number_of d.alphabet.processes a (label (loc_of d.alphabet) d.alphabet.processes (w ++ a ∷ []) (length w))
+    slice_index (local_after d (w ++ a ∷ []) x).gossip.primary x ≡ number_of d.alphabet.processes a
+    (label (loc_of d.alphabet) d.alphabet.processes (w ++ a ∷ []) (length w))
 own-entry d w a x l h =
     let loc = loc_of d.alphabet in
     let n = d.alphabet.processes in

@@ -1,5 +1,6 @@
 -- Who is missing at each letter: at the start, and after events.
-use Rattle.std.proofs.Common.{◌≡◌, ◌≢◌, ℕ, ◌<◌, ◌==◌, ◌&&◌, not, nat_lt, Bool, true, false, List, [], ◌∷◌, ◌++◌, Some, length, slice_index, slice_index_or, refl, sym}
+use Rattle.std.proofs.Common.{◌≡◌, ◌≢◌, ℕ, ◌<◌, ◌==◌, ◌&&◌, not, nat_lt, Bool, true, false, List, [], ◌∷◌, ◌++◌, Some, length, slice_index, slice_index_or}
+use Rattle.std.proofs.Common.{refl, sym}
 use Rattle.std.proofs.Common.{ap, subst, ◌∙◌, arith, inl, inr, eqb-true, eq-eqb, get_or-set_same, get_or-set_other}
 use Rattle.std.specs.Prelude.{◌⊎◌}
 use Rattle.std.specs.List.{slice_get, slice_set}
@@ -44,7 +45,8 @@ pub missing-first : (m : Machine) (al : DistributedAlphabet) (sets : List Procs)
     AreLocated al (length al.letters) sets → AreAllMissing m (initial m) sets
 missing-first m al sets e n h = record {
   size = h.size ∙ sym n;
-  each = λ a l. all-missing m (initial m) a (slice_index_or sets a no_process) (h.each a (omega arith) ∙ ap (λ f. f a) (sym e)) (λ p t. at-initial m.processes p);
+  each = λ a l. all-missing m (initial m) a (slice_index_or sets a no_process) (h.each a (omega arith) ∙ ap (λ f. f a) (sym e))
+      (λ p t. at-initial m.processes p);
 }
 
 -- a letter that comes next is the one
@@ -55,8 +57,10 @@ comes-one xs k a b h =
     ap (λ x. x && (slice_index xs k == b)) (lt-ltb k (length xs) l) ∙ ap (λ x. x == b) e
 
 -- a process arrives at its next letter
-module _ (m : Machine) (c : State) (p a : ℕ) (is : next m c.journal p ≡ Some a) (free : is_in c.arrived p ≡ false) (inside : p < length c.arrived) (sets : List Procs)
-    (ok : AreAllMissing m c sets) (less : Procs) (without : (q : ℕ) → has (members less) q ≡ (has (members (slice_index_or sets a no_process)) q && not (q == p))) (la : a < m.letters) where
+module _ (m : Machine) (c : State) (p a : ℕ) (is : next m c.journal p ≡ Some a) (free : is_in c.arrived p ≡ false) (inside : p < length c.arrived)
+    (sets : List Procs)
+    (ok : AreAllMissing m c sets) (less : Procs)
+    (without : (q : ℕ) → has (members less) q ≡ (has (members (slice_index_or sets a no_process)) q && not (q == p))) (la : a < m.letters) where
   -- whoever else waits does so as before
   other : (b q : ℕ) → q ≢ p → waits_at m (arrive p c) b q ≡ waits_at m c b q
   other b q n = ap (λ x. x && comes_next (m.scripts q) (fired_by m c.journal q) b) (get_or-set_other c.arrived p q true false n)
@@ -140,7 +144,8 @@ module _ (m : Machine) (c : State) (a : ℕ) (complete : is_complete m c a ≡ t
     size = length-set sets a all ∙ ok.size;
     each = λ b l. elim (cases_eq b a) [
       | inl e ↦ subst (λ (i : ℕ). AreMissing m (fire m.loc a c) i (slice_index_or (slice_set sets a all) i no_process)) (sym e)
-          (subst (AreMissing m (fire m.loc a c) a) (sym (get_or-set_same sets a all no_process (let s = ok.size in omega arith))) (all-missing m (fire m.loc a c) a all are gone))
+          (subst (AreMissing m (fire m.loc a c) a) (sym (get_or-set_same sets a all no_process (let s = ok.size in omega arith)))
+          (all-missing m (fire m.loc a c) a all are gone))
       | inr n ↦ subst (AreMissing m (fire m.loc a c) b) (sym (get_or-set_other sets a b all no_process n)) (left b l n)
     ];
   }
@@ -151,7 +156,8 @@ empty-or [] = inl refl
 empty-or (x ∷ xs) = inr (λ e. cc)
 
 pub arrived-answer : (m : Machine) (c : State) (p : ℕ) (letter : Letter) (missing : Procs) (answer : Arrival) → next m c.journal p ≡ Some letter.0 →
-    AreMissing m c letter.0 missing → (members missing ≡ [] → answer ≡ Complete letter) → ((members missing ≡ [] → ⊥) → answer ≡ Short letter missing) → IsArrival m c p answer
+    AreMissing m c letter.0 missing → (members missing ≡ [] → answer ≡ Complete letter) → ((members missing ≡ [] → ⊥) → answer ≡ Short letter missing) →
+    IsArrival m c p answer
 arrived-answer m c p letter missing answer is are none some =
     let all = none-missing (waits_at m c letter.0) (m.loc letter.0) (members missing) are in
     elim (empty-or (members missing)) [

@@ -1,5 +1,6 @@
 -- The lists of a table after an event.
-use Rattle.std.proofs.Common.{◌≡◌, ℕ, suc, ◌+◌, ◌<◌, Bool, inl, inr, List, [], ◌∷◌, ◌++◌, Option, Some, None, Vec, Global, length, slice_index, slice_index_or, cond, sym, ap, ◌∙◌, arith, length-append}
+use Rattle.std.proofs.Common.{◌≡◌, ℕ, suc, ◌+◌, ◌<◌, Bool, inl, inr, List, [], ◌∷◌, ◌++◌, Option, Some, None, Vec, Global, length, slice_index}
+use Rattle.std.proofs.Common.{slice_index_or, cond, sym, ap, ◌∙◌, arith, length-append}
 use Rattle.std.specs.Prelude.{if◌then◌else◌}
 use Rattle.std.proofs.Math.Seq.{get_or-append_seam}
 use Rattle.std.proofs.lemmas.Bool.{cases_Bool, cases_lt, cond-true, cond-false}
@@ -20,7 +21,8 @@ use Rattle.za_table.specs.Tables.{last_event}
 use Rattle.za_table.specs.Private.Steps.{IsProgress, HasAppended}
 
 -- others have arrived and ended
-pub with-others : (m : Machine) (p : Progress) (arrived ended : Vec Bool Global) → IsProgress m p → length arrived.items ≡ m.processes → length ended.items ≡ m.processes →
+pub with-others : (m : Machine) (p : Progress) (arrived ended : Vec Bool Global) → IsProgress m p → length arrived.items ≡ m.processes →
+    length ended.items ≡ m.processes →
     IsProgress m (record p { arrived = arrived; ended = ended })
 with-others m p arrived ended ok a e = record {
   labels_size = ok.labels_size;
@@ -49,7 +51,8 @@ module _ (m : Machine) (w : List ℕ) (a : ℕ) where
   fired-next : (p : ℕ) → fired_by m (w ++ a ∷ []) p ≡ fired_by m w p + cond (has (m.loc a) p) 1 0
   fired-next p = elim (cases_Bool (has (m.loc a) p)) [
     | inl own ↦ let s = fired_by-own m w a p own in let y : cond {A = ℕ} (has (m.loc a) p) 1 0 ≡ 1 = cond-true (has (m.loc a) p) 1 0 own in omega arith
-    | inr off ↦ let s = ap length (fired_by-other m w a p off) in let y : cond {A = ℕ} (has (m.loc a) p) 1 0 ≡ 0 = cond-false (has (m.loc a) p) 1 0 off in omega arith
+    | inr off ↦ let s = ap length (fired_by-other m w a p off) in let y : cond {A = ℕ} (has (m.loc a) p) 1 0 ≡ 0 = cond-false (has (m.loc a) p) 1 0 off in
+        omega arith
   ]
 
   label-next : IsMachine m → IsWord m.letters w → a < m.letters → (i : ℕ) → i < length w → label m.loc m.processes w i ≡ label m.loc m.processes (w ++ a ∷ []) i
@@ -61,7 +64,8 @@ module _ (m : Machine) (w : List ℕ) (a : ℕ) where
     same = λ j n. sym (agrees w a j n);
   }) k
 
-module _ (m : Machine) (p q : Progress) (a l : ℕ) (ok : IsMachine m) (is : IsProgress m p) (h : HasAppended p q a l (m.loc a)) (word : IsWord m.letters (numbers p.journal.items)) (small : a < m.letters)
+module _ (m : Machine) (p q : Progress) (a l : ℕ) (ok : IsMachine m) (is : IsProgress m p) (h : HasAppended p q a l (m.loc a))
+    (word : IsWord m.letters (numbers p.journal.items)) (small : a < m.letters)
     (own : l ≡ label m.loc m.processes (numbers p.journal.items ++ a ∷ []) (length p.journal.items)) where
   long : length (numbers p.journal.items) ≡ length p.journal.items
   long = length-map p.journal.items (λ (b : Letter). b.0)

@@ -1,5 +1,6 @@
 -- Who waits at a letter has it as its next one.
-use Rattle.std.proofs.Common.{◌≡◌, ℕ, ◌<◌, ◌≤◌, ◌==◌, ◌⊎◌, nat_lt, Bool, true, false, inl, inr, List, length, slice_index, sym, ap, subst, ◌∙◌, arith, Option, Some, None, ltb-true, eqb-true}
+use Rattle.std.proofs.Common.{◌≡◌, ℕ, ◌<◌, ◌≤◌, ◌==◌, ◌⊎◌, nat_lt, Bool, true, false, inl, inr, List, length, slice_index, sym, ap, subst, ◌∙◌, arith, Option}
+use Rattle.std.proofs.Common.{Some, None, ltb-true, eqb-true}
 use Rattle.std.specs.Option.{option_map, IfSome, IsSome, IsNone}
 use Rattle.std.specs.List.{slice_get}
 use Rattle.std.proofs.lemmas.Option.{slice_get_past, slice_get-get_or, none-some}
@@ -42,7 +43,8 @@ some-below xs k a h = elim (cases_lt k (length xs)) [
 ]
 
 -- the next letter of a process is one of its letters
-pub next-own : (t : TableState) → IsTable t → (p a : ℕ) → p < t.given.dfa.alphabet.processes → next (machine_of t.given) t.state.journal p ≡ Some a → IsLetterOf t.given.dfa.alphabet p a
+pub next-own : (t : TableState) → IsTable t → (p a : ℕ) → p < t.given.dfa.alphabet.processes → next (machine_of t.given) t.state.journal p ≡ Some a →
+    IsLetterOf t.given.dfa.alphabet p a
 next-own t ok p a l h =
     let script = script_of t.given.scripts p in
     let k = fired_by (machine_of t.given) t.state.journal p in
@@ -66,14 +68,17 @@ least-found test n m le found covers =
       ]
     ]
 
-pub own-if : (t : TableState) → IsTable t → (p : ℕ) → p < t.given.dfa.alphabet.processes → (o : Option Letter) → option_map (λ (x : Letter). x.0) o ≡ next (machine_of t.given) t.state.journal p → IfSome o (λ a. IsLetterOf t.given.dfa.alphabet p a.0)
+pub own-if : (t : TableState) → IsTable t → (p : ℕ) → p < t.given.dfa.alphabet.processes → (o : Option Letter) → option_map (λ (x : Letter). x.0) o ≡ next
+    (machine_of t.given) t.state.journal p → IfSome o (λ a. IsLetterOf t.given.dfa.alphabet p a.0)
 own-if t ok p l None h = tt
 own-if t ok p l (Some a) h = next-own t ok p a.0 l (sym h)
 
-pub left-if : (t : TableState) (p : ℕ) (o : Option Letter) → option_map (λ (x : Letter). x.0) o ≡ next (machine_of t.given) t.state.journal p → IsSome o → fired_by (machine_of t.given) t.state.journal p < length (script_of t.given.scripts p)
+pub left-if : (t : TableState) (p : ℕ) (o : Option Letter) → option_map (λ (x : Letter). x.0) o ≡ next (machine_of t.given) t.state.journal p → IsSome o →
+    fired_by (machine_of t.given) t.state.journal p < length (script_of t.given.scripts p)
 left-if t p None h s = absurd (let z : false ≡ true = s in cc)
 left-if t p (Some a) h s = some-below (script_of t.given.scripts p) (fired_by (machine_of t.given) t.state.journal p) a.0 (sym h)
 
-pub used_up-if : (t : TableState) → IsTable t → (p : ℕ) (o : Option Letter) → option_map (λ (x : Letter). x.0) o ≡ next (machine_of t.given) t.state.journal p → IsNone o → projection (loc_of t.given.dfa.alphabet) p t.state.journal ≡ script_of t.given.scripts p
+pub used_up-if : (t : TableState) → IsTable t → (p : ℕ) (o : Option Letter) → option_map (λ (x : Letter). x.0) o ≡ next (machine_of t.given) t.state.journal
+    p → IsNone o → projection (loc_of t.given.dfa.alphabet) p t.state.journal ≡ script_of t.given.scripts p
 used_up-if t ok p None h n = none_left (machine_of t.given) t.state.journal p (reached-sound (machine_of t.given) t.state ok.reached).fits (sym h)
 used_up-if t ok p (Some a) h n = absurd (let z : true ≡ false = n in cc)

@@ -1,5 +1,6 @@
 -- Complete letters are the enabled ones where everyone has arrived who can, and firing the least is a step of the weave.
-use Rattle.std.proofs.Common.{◌≡◌, ◌≢◌, ℕ, zero, suc, ◌-◌, ◌<◌, ◌≤◌, ◌&&◌, ◌||◌, ◌==◌, nat_lt, Bool, true, false, inl, inr, List, [], ◌∷◌, ◌++◌, length, slice_index, refl, sym, ap, subst, ◌∙◌, arith, length-append, ltb-true, get_or-set_same, Option, Some, None}
+use Rattle.std.proofs.Common.{◌≡◌, ◌≢◌, ℕ, zero, suc, ◌-◌, ◌<◌, ◌≤◌, ◌&&◌, ◌||◌, ◌==◌, nat_lt, Bool, true, false, inl, inr, List, [], ◌∷◌, ◌++◌, length}
+use Rattle.std.proofs.Common.{slice_index, refl, sym, ap, subst, ◌∙◌, arith, length-append, ltb-true, get_or-set_same, Option, Some, None}
 use Rattle.std.specs.Option.{is_some, option_map}
 use Rattle.za_alpha.specs.declared.word.Letter.{Letter}
 use Rattle.std.specs.List.{list_all, slice_get}
@@ -12,7 +13,8 @@ use Rattle.za_alpha.proofs.Least.{least-true, least-below, least-none, least-wit
 use Rattle.za_script.proofs.Lists.{all-agree}
 use Rattle.za_script.proofs.Confluence.{fits-length}
 use Rattle.za_script.proofs.Standing.{from-end, from-step}
-use Rattle.za_machine.specs.Machine.{Machine, IsMachine, State, is_in, fired_by, next, is_complete, IsOver, Fire, arrive, fire, end_at, IsAllowed, IsMachineState}
+use Rattle.za_machine.specs.Machine.{Machine, IsMachine, State, is_in, fired_by, next, is_complete, IsOver, Fire, arrive, fire, end_at, IsAllowed}
+use Rattle.za_machine.specs.Machine.{IsMachineState}
 use Rattle.za_machine.proofs.States.{reached_more, reached-sound, none_left}
 use Rattle.za_alpha.specs.Alphabet.{loc_of}
 use Rattle.za_script.specs.ScriptLists.{script_of}
@@ -39,9 +41,12 @@ AllGone j c = (p : ℕ) → p < j.processes → length (j.scripts p) ≤ fired_b
 
 module _ (j : Machine) (c : State) (ok : IsMachine j) (here : AllHere j c) where
   complete-is-enabled : (a : ℕ) → a < j.letters → is_complete j c a ≡ is_enabled j.loc j.scripts c.journal a
-  complete-is-enabled a l = all-agree (λ p. is_in c.arrived p && comes_next (j.scripts p) (fired_by j c.journal p) a) (λ p. comes_next (j.scripts p) (fired_by j c.journal p) a) (j.loc a)
+  complete-is-enabled a l = all-agree (λ p. is_in c.arrived p && comes_next (j.scripts p) (fired_by j c.journal p) a)
+      (λ p. comes_next (j.scripts p) (fired_by j c.journal p) a) (j.loc a)
       (λ p m. and_self (is_in c.arrived p) (comes_next (j.scripts p) (fired_by j c.journal p) a) (λ n.
-      here p (ok.alphabet.below a p l m) (ltb-true (fired_by j c.journal p) (length (j.scripts p)) (and_parts (nat_lt (fired_by j c.journal p) (length (j.scripts p))) (slice_index (j.scripts p) (fired_by j c.journal p) == a) n).0)))
+      here p (ok.alphabet.below a p l m)
+      (ltb-true (fired_by j c.journal p) (length (j.scripts p)) (and_parts (nat_lt (fired_by j c.journal p) (length (j.scripts p)))
+      (slice_index (j.scripts p) (fired_by j c.journal p) == a) n).0)))
 
   pub first-is-enabled : least (is_complete j c) j.letters ≡ least (is_enabled j.loc j.scripts c.journal) j.letters
   first-is-enabled = least-agree (is_complete j c) (is_enabled j.loc j.scripts c.journal) j.letters complete-is-enabled
@@ -51,7 +56,8 @@ woven j w = weave_from j.loc j.letters j.scripts (total j.scripts j.processes - 
 
 module _ (j : Machine) where
   pub woven-end : (c : State) → IsMachine j → AllHere j c → j.letters ≡ least (is_complete j c) j.letters → woven j c.journal ≡ c.journal
-  woven-end c ok here e = from-end j.loc j.letters j.scripts (total j.scripts j.processes - length c.journal) c.journal (let f = first-is-enabled j c ok here in omega arith)
+  woven-end c ok here e = from-end j.loc j.letters j.scripts (total j.scripts j.processes - length c.journal) c.journal
+      (let f = first-is-enabled j c ok here in omega arith)
 
   pub room-for : (c : State) (a : ℕ) → IsMachine j → IsMachineState j c → IsAllowed j c (Fire a) → length c.journal < total j.scripts j.processes
   room-for c a ok r h =
@@ -62,12 +68,14 @@ module _ (j : Machine) where
   pub first-allowed : (c : State) (a : ℕ) → a ≡ least (is_complete j c) j.letters → a < j.letters → IsAllowed j c (Fire a)
   first-allowed c a e l = (l, subst (λ x. is_complete j c x ≡ true) (sym e) (least-true (is_complete j c) j.letters (rw (← e) l)))
 
-  pub woven-step : (c : State) (a : ℕ) → IsMachine j → IsMachineState j c → AllHere j c → a ≡ least (is_complete j c) j.letters → a < j.letters → woven j c.journal ≡ woven j (c.journal ++ a ∷ [])
+  pub woven-step : (c : State) (a : ℕ) → IsMachine j → IsMachineState j c → AllHere j c → a ≡ least (is_complete j c) j.letters → a < j.letters →
+      woven j c.journal ≡ woven j (c.journal ++ a ∷ [])
   woven-step c a ok r here e l =
       let f = first-is-enabled j c ok here in
       let n = room-for c a ok r (first-allowed c a e l) in
       let k = length-append c.journal (a ∷ []) in
-      from-step j.loc j.letters j.scripts (total j.scripts j.processes - length c.journal) (total j.scripts j.processes - length (c.journal ++ a ∷ [])) c.journal a
+      from-step j.loc j.letters j.scripts (total j.scripts j.processes - length c.journal) (total j.scripts j.processes - length (c.journal ++ a ∷ []))
+      c.journal a
       (e ∙ f) l (omega arith)
 
   or_here : (x y : Bool) → x ≡ true → (x || y) ≡ true
@@ -75,16 +83,20 @@ module _ (j : Machine) where
   or_here false y h = absurd (let z : false ≡ true = h in cc)
 
   -- once nobody can arrive or end and no letter is complete
-  pub over-then : (c d : State) → AllHere j c → d.journal ≡ c.journal → d.arrived ≡ c.arrived → AllGone j d → j.letters ≡ least (is_complete j c) j.letters → IsOver j d
+  pub over-then : (c d : State) → AllHere j c → d.journal ≡ c.journal → d.arrived ≡ c.arrived → AllGone j d → j.letters ≡ least (is_complete j c) j.letters →
+      IsOver j d
   over-then c d here same still gone e = record {
-    quiet = λ a l. (λ i. list_all (λ p. is_in (still i) p && comes_next (j.scripts p) (fired_by j (same i) p) a) (j.loc a)) ∙ least-below (is_complete j c) j.letters a (omega arith);
+    quiet = λ a l. (λ i. list_all (λ p. is_in (still i) p && comes_next (j.scripts p) (fired_by j (same i) p) a) (j.loc a)) ∙ least-below
+        (is_complete j c) j.letters a (omega arith);
     each = λ p l. elim (cases_lt (fired_by j d.journal p) (length (j.scripts p))) [
-      | inl m ↦ or_here (is_in d.arrived p) (is_in d.ended p) (subst (λ bs. is_in bs p ≡ true) (sym still) (here p l (subst (λ w. fired_by j w p < length (j.scripts p)) same m)))
+      | inl m ↦ or_here (is_in d.arrived p) (is_in d.ended p)
+          (subst (λ bs. is_in bs p ≡ true) (sym still) (here p l (subst (λ w. fired_by j w p < length (j.scripts p)) same m)))
       | inr g ↦ or_right (is_in d.arrived p) (is_in d.ended p) (gone p l g)
     ];
   }
 
-  pub over-if : (c : State) → least (is_complete j c) j.letters ≡ j.letters → ((p : ℕ) → p < j.processes → (is_in c.arrived p || is_in c.ended p) ≡ true) → IsOver j c
+  pub over-if : (c : State) → least (is_complete j c) j.letters ≡ j.letters → ((p : ℕ) → p < j.processes → (is_in c.arrived p || is_in c.ended p) ≡ true) →
+      IsOver j c
   over-if c e each = record { quiet = λ a l. least-below (is_complete j c) j.letters a (omega arith); each = each }
 
   pub over-only : (c : State) → IsOver j c → least (is_complete j c) j.letters ≡ j.letters
@@ -93,7 +105,8 @@ module _ (j : Machine) where
     | inr g ↦ (let k = least-none (is_complete j c) j.letters (λ a l. o.quiet a l) in sym k)
   ]
 
-pub used-up : (h : TableState) (p : ℕ) → IsTable h → next (machine_of h.given) h.state.journal p ≡ None → projection (loc_of h.given.dfa.alphabet) p h.state.journal ≡ script_of h.given.scripts p
+pub used-up : (h : TableState) (p : ℕ) → IsTable h → next (machine_of h.given) h.state.journal p ≡ None → projection (loc_of h.given.dfa.alphabet) p
+    h.state.journal ≡ script_of h.given.scripts p
 used-up h p ok e = none_left (machine_of h.given) h.state.journal p (reached-sound (machine_of h.given) h.state ok.reached).fits e
 
 pub left-none : (xs : List ℕ) (k : ℕ) → slice_get xs k ≡ None → length xs ≤ k
@@ -106,19 +119,24 @@ pub left-some : (xs : List ℕ) (k : ℕ) → length xs ≤ k → slice_get xs k
 left-some xs k h = slice_get_past xs k h
 
 -- one turn of the loop, which begins at s: everyone arrives, which gives h, and the letter a is fired, which gives f
-module _ (s h f : TableState) (a : ℕ) (same : h.given ≡ s.given) (word : h.state.journal ≡ s.state.journal) (ok : IsTable h) (here : AllHere (machine_of h.given) h.state)
+module _ (s h f : TableState) (a : ℕ) (same : h.given ≡ s.given) (word : h.state.journal ≡ s.state.journal) (ok : IsTable h)
+    (here : AllHere (machine_of h.given) h.state)
     (is : a ≡ least (is_complete (machine_of h.given) h.state) (length h.given.dfa.alphabet.letters)) (other : a ≢ length h.given.dfa.alphabet.letters) where
   pub turn-below : a < length h.given.dfa.alphabet.letters
-  turn-below = let k = least-within (is_complete (machine_of h.given) h.state) (length h.given.dfa.alphabet.letters) in let n : a ≢ length h.given.dfa.alphabet.letters = other in omega arith
+  turn-below = let k = least-within (is_complete (machine_of h.given) h.state) (length h.given.dfa.alphabet.letters) in let n : a ≢ length
+      h.given.dfa.alphabet.letters = other in omega arith
 
   pub turn-allowed : IsAllowed (machine_of h.given) h.state (Fire a)
   turn-allowed = first-allowed (machine_of h.given) h.state a is turn-below
 
-  pub turn-woven : f.given ≡ h.given → f.state ≡ fire (loc_of h.given.dfa.alphabet) a h.state → woven (machine_of s.given) s.state.journal ≡ woven (machine_of f.given) f.state.journal
-  turn-woven g m = (λ i. woven (machine_of (sym same i)) (sym word i)) ∙ woven-step (machine_of h.given) h.state a (machine h ok) ok.reached here is turn-below ∙ (λ i. woven (machine_of (sym g i)) (sym m i).journal)
+  pub turn-woven : f.given ≡ h.given → f.state ≡ fire (loc_of h.given.dfa.alphabet) a h.state → woven (machine_of s.given) s.state.journal ≡ woven
+      (machine_of f.given) f.state.journal
+  turn-woven g m = (λ i. woven (machine_of (sym same i)) (sym word i)) ∙ woven-step (machine_of h.given) h.state a (machine h ok) ok.reached here is
+      turn-below ∙ (λ i. woven (machine_of (sym g i)) (sym m i).journal)
 
   pub turn-less : f.given ≡ h.given → f.state ≡ fire (loc_of h.given.dfa.alphabet) a h.state →
-      total (script_of f.given.scripts) (f.given.dfa.alphabet.processes) - length f.state.journal < total (script_of s.given.scripts) (s.given.dfa.alphabet.processes) - length s.state.journal
+      total (script_of f.given.scripts) (f.given.dfa.alphabet.processes) - length f.state.journal < total (script_of s.given.scripts)
+      (s.given.dfa.alphabet.processes) - length s.state.journal
   turn-less g m =
       let left : Given → List ℕ → ℕ = λ x w. total (script_of x.scripts) (x.dfa.alphabet.processes) - length w in
       let e1 : left h.given h.state.journal ≡ left s.given s.state.journal = λ i. left (same i) (word i) in
@@ -129,13 +147,16 @@ module _ (s h f : TableState) (a : ℕ) (same : h.given ≡ s.given) (word : h.s
       subst (λ (x : ℕ). x < left s.given s.state.journal) (sym e2) (subst (λ (x : ℕ). left h.given (h.state.journal ++ a ∷ []) < x) e1 z)
 
 -- the loop's end
-module _ (s h f : TableState) (same : h.given ≡ s.given) (word : h.state.journal ≡ s.state.journal) (ok : IsTable h) (here : AllHere (machine_of h.given) h.state)
-    (is : length h.given.dfa.alphabet.letters ≡ least (is_complete (machine_of h.given) h.state) (length h.given.dfa.alphabet.letters)) (g : f.given ≡ h.given) (m : f.state.journal ≡ h.state.journal) where
+module _ (s h f : TableState) (same : h.given ≡ s.given) (word : h.state.journal ≡ s.state.journal) (ok : IsTable h)
+    (here : AllHere (machine_of h.given) h.state)
+    (is : length h.given.dfa.alphabet.letters ≡ least (is_complete (machine_of h.given) h.state) (length h.given.dfa.alphabet.letters))
+    (g : f.given ≡ h.given) (m : f.state.journal ≡ h.state.journal) where
   pub end-woven : woven (machine_of s.given) s.state.journal ≡ f.state.journal
   end-woven = (λ i. woven (machine_of (sym same i)) (sym word i)) ∙ woven-end (machine_of h.given) h.state (machine h ok) here is ∙ sym m
 
   pub end-over : f.state.arrived ≡ h.state.arrived → AllGone (machine_of f.given) f.state → IsOver (machine_of f.given) f.state
-  end-over still gone = subst (λ (x : Given). IsOver (machine_of x) f.state) (sym g) (over-then (machine_of h.given) h.state f.state here m still (subst (λ (x : Given). AllGone (machine_of x) f.state) g gone) is)
+  end-over still gone = subst (λ (x : Given). IsOver (machine_of x) f.state) (sym g)
+      (over-then (machine_of h.given) h.state f.state here m still (subst (λ (x : Given). AllGone (machine_of x) f.state) g gone) is)
 
 pub is_none : (o : Option ℕ) → is_some o ≡ false → o ≡ None
 is_none None h = refl

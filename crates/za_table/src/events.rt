@@ -183,6 +183,7 @@ fn append(shared: &SharedLocals, progress: &mut Progress, a: Letter) -> usize
         (numbers progress.old.journal.items ++ a.0 ∷ []) (locals_of shared.now) }
     requires journal { length progress.old.journal.items < vec_capacity progress.old.journal }
     requires labels { length progress.old.labels.items < vec_capacity progress.old.labels }
+    requires each { length progress.old.counts.items ≡ shared.now.dfa.alphabet.processes }
     requires counts { (p : ℕ) → IsTrue (has (loc_of shared.now.dfa.alphabet a.0) p) →
         slice_index progress.old.counts.items p < usize.MAX }
     requires arrived { length progress.old.arrived.items ≡ length progress.old.counts.items }

@@ -17,6 +17,7 @@ pub(crate) fn tally(
     processes: Procs,
     at: usize,
 )
+    requires within { (p : ℕ) → IsTrue (has (members processes) p) → p < length counts.old }
     requires counts { (p : ℕ) → IsTrue (has (members processes) p) → slice_index counts.old p < usize.MAX }
     requires arrived { length arrived.old ≡ length counts.old }
     requires latest { length latest.old ≡ length counts.old }
@@ -25,12 +26,12 @@ pub(crate) fn tally(
         (record { counts = counts.new; arrived = arrived.new; latest = latest.new })
         (length counts.old) (members processes) at }
 {
-    for p in 0..counts.len() {
-        if processes.has(p) {
-            counts[p] += 1;
-            arrived[p] = false;
-            latest[p] = Some(at);
-        }
+    let mut start = 0;
+    'members: while let Some(p) = processes.least_from(start) {
+        counts[p] += 1;
+        arrived[p] = false;
+        latest[p] = Some(at);
+        start = p + 1;
     }
 }
 

@@ -50,6 +50,7 @@ impl Progress {
     pub(crate) fn append(&mut self, a: Letter, label: u16, processes: Procs) -> usize
         requires journal { length self.old.journal.items < vec_capacity self.old.journal }
         requires labels { length self.old.labels.items < vec_capacity self.old.labels }
+        requires within { (p : ℕ) → IsTrue (has (members processes) p) → p < length self.old.counts.items }
         requires counts { (p : ℕ) → IsTrue (has (members processes) p) →
             slice_index self.old.counts.items p < usize.MAX }
         requires arrived { length self.old.arrived.items ≡ length self.old.counts.items }

@@ -1,5 +1,6 @@
 -- Where the first line of a text ends.
-use Rattle.std.proofs.Common.{◌≡◌, ℕ, ◌+◌, ◌<◌, ◌≤◌, Bool, true, false, cond, not, ◌==◌, List, [], ◌∷◌, length, take, drop, get_or, refl, sym, ap, add-one, arith}
+use Rattle.std.proofs.Common.{◌≡◌, ℕ, ◌+◌, ◌<◌, ◌≤◌, Bool, true, false, cond, not, ◌==◌, List, [], ◌∷◌, length, take, drop, get_or, refl, sym, ap, add-one}
+use Rattle.std.proofs.Common.{arith}
 use Rattle.std.proofs.lemmas.List.Sums.{prefix_len_is}
 use Rattle.std.proofs.Math.Numerals.{one-add}
 use Rattle.std.specs.List.{prefix_len}
@@ -10,7 +11,8 @@ len bs = prefix_len (λ b. not (b == 10)) bs
 
 whole_at : (feed : Bool) (b : ℕ) (bs : List ℕ) → (b == 10) ≡ feed → cond (not feed) (1 + len bs) 0 < length (b ∷ bs)
     → (len bs < length bs → lines_of bs ≡ record { text = take (len bs) bs; whole = true } ∷ lines_of (drop (len bs + 1) bs))
-    → lines_of (b ∷ bs) ≡ record { text = take (cond (not feed) (1 + len bs) 0) (b ∷ bs); whole = true } ∷ lines_of (drop (cond (not feed) (1 + len bs) 0 + 1) (b ∷ bs))
+    → lines_of (b ∷ bs) ≡ record { text = take (cond (not feed) (1 + len bs) 0) (b ∷ bs); whole = true } ∷ lines_of
+    (drop (cond (not feed) (1 + len bs) 0 + 1) (b ∷ bs))
 whole_at true b bs e h more = rw e
 whole_at false b bs e h more =
     let below : len bs < length bs = omega arith in

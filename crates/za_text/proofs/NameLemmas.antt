@@ -1,5 +1,6 @@
 -- Names of processes: each is found at its own process.
-use Rattle.std.proofs.Common.{◌≡◌, ◌≢◌, ◌∙◌, sym, ap, refl, ℕ, zero, suc, ◌+◌, ◌<◌, ◌≤◌, Bool, true, false, cond, inl, inr, List, [], ◌∷◌, ◌++◌, length, get_or, map, drop, arith, Some, None, add-one, drop-cons, length-append}
+use Rattle.std.proofs.Common.{◌≡◌, ◌≢◌, ◌∙◌, sym, ap, refl, ℕ, zero, suc, ◌+◌, ◌<◌, ◌≤◌, Bool, true, false, cond, inl, inr, List, [], ◌∷◌, ◌++◌, length, get_or}
+use Rattle.std.proofs.Common.{map, drop, arith, Some, None, add-one, drop-cons, length-append}
 use Rattle.std.specs.Prelude.{decimal, is_some}
 use Rattle.std.specs.List.{position_from}
 use Rattle.std.specs.Str.{bytes_eq}
@@ -17,16 +18,19 @@ use Rattle.za_text.specs.ProcessNames.{name_of, process_named, numbered, AreApar
 
 -- the search goes on after a name that isn't the word, and ends at one that is
 pub search_on : (names : List (List ℕ)) (word : List ℕ) (p : ℕ) → p < length names →
-    position_from (λ name. bytes_eq name word) p (drop p names) ≡ cond (bytes_eq (name_of names p) word) (Some p) (position_from (λ name. bytes_eq name word) (p + 1) (drop (p + 1) names))
+    position_from (λ name. bytes_eq name word) p (drop p names)
+    ≡ cond (bytes_eq (name_of names p) word) (Some p) (position_from (λ name. bytes_eq name word) (p + 1) (drop (p + 1) names))
 search_on names word p h = ap (position_from (λ name. bytes_eq name word) p) (drop-cons names p [] h) ∙ rw (add-one p) refl
 
 -- the name at a place of the fields
-pub name-inside : (items : List (Vec ℕ Global)) (names : List (List ℕ)) (p : ℕ) (v : Vec ℕ Global) → map bytes_of items ≡ names → v ≡ get_or items p v → p < length items → name_of names p ≡ v.items
+pub name-inside : (items : List (Vec ℕ Global)) (names : List (List ℕ)) (p : ℕ) (v : Vec ℕ Global) → map bytes_of items ≡ names → v ≡ get_or items p v →
+    p < length items → name_of names p ≡ v.items
 name-inside items names p v view is within =
     ap (λ ns. name_of ns p) (sym view) ∙ get_or-map bytes_of items p v [] within ∙ ap bytes_of (sym is)
 
 -- a word that no process has differs from each name
-apart_from : (names : List (List ℕ)) (word : List ℕ) (k p : ℕ) → position_from (λ name. bytes_eq name word) k names ≡ None → p < length names → name_of names p ≢ word
+apart_from : (names : List (List ℕ)) (word : List ℕ) (k p : ℕ) → position_from (λ name. bytes_eq name word) k names ≡ None → p < length names →
+    name_of names p ≢ word
 apart_from [] word k p none h e = absurd (omega arith)
 apart_from (name ∷ names) word k zero none h e =
     let yes : bytes_eq name word ≡ true = (bytes_eq-Decides name word).1 e in
@@ -35,7 +39,8 @@ apart_from (name ∷ names) word k zero none h e =
 apart_from (name ∷ names) word k (suc p) none h e =
     elim (cases_Bool (bytes_eq name word)) [
       | inl t ↦ absurd (let b : Some k ≡ None = rw t at none in let f : true ≡ false = ap is_some b in cc)
-      | inr f ↦ let rest : position_from (λ name. bytes_eq name word) (k + 1) names ≡ None = rw f at none in apart_from names word (k + 1) p rest (omega arith) e
+      | inr f ↦ let rest : position_from (λ name. bytes_eq name word) (k + 1) names ≡ None = rw f at none in
+          apart_from names word (k + 1) p rest (omega arith) e
     ]
 
 -- where names tell processes apart, each is the first of its name
@@ -63,7 +68,8 @@ found_below : (test : List ℕ → Bool) (k : ℕ) (names : List (List ℕ)) (p 
 found_below test k [] p h = absurd (let b : false ≡ true = ap is_some h in cc)
 found_below test k (name ∷ names) p h = found_at (test name) h (found_below test (k + 1) names p)
   where
-    found_at : (b : Bool) → cond b (Some k) (position_from test (k + 1) names) ≡ Some p → (position_from test (k + 1) names ≡ Some p → p < k + 1 + length names) → p < k + length (name ∷ names)
+    found_at : (b : Bool) → cond b (Some k) (position_from test (k + 1) names) ≡ Some p →
+        (position_from test (k + 1) names ≡ Some p → p < k + 1 + length names) → p < k + length (name ∷ names)
     found_at true h more = let e : k ≡ p = cc in omega arith
     found_at false h more = let r = more h in omega arith
 
@@ -81,12 +87,14 @@ apart-more names name apart fresh p q h k e =
             | inl j ↦ apart p q i j (sym (get_or-append names (name ∷ []) [] p i) ∙ e ∙ get_or-append names (name ∷ []) [] q j)
             | inr ge ↦
                 let same : q ≡ length names = omega arith in
-                absurd (apart_from names name 0 p fresh i (sym (get_or-append names (name ∷ []) [] p i) ∙ e ∙ ap (λ n. get_or (names ++ name ∷ []) n []) same ∙ last))
+                absurd (apart_from names name 0 p fresh i (sym (get_or-append names (name ∷ []) [] p i) ∙ e ∙ ap (λ n. get_or (names ++ name ∷ []) n []) same
+                ∙ last))
           ]
       | inr ge ↦
           let there : p ≡ length names = omega arith in
           elim (cases_lt q (length names)) [
-            | inl j ↦ absurd (apart_from names name 0 q fresh j (sym (get_or-append names (name ∷ []) [] q j) ∙ sym e ∙ ap (λ n. get_or (names ++ name ∷ []) n []) there ∙ last))
+            | inl j ↦ absurd (apart_from names name 0 q fresh j
+                (sym (get_or-append names (name ∷ []) [] q j) ∙ sym e ∙ ap (λ n. get_or (names ++ name ∷ []) n []) there ∙ last))
             | inr more ↦ omega arith
           ]
     ]
@@ -95,7 +103,8 @@ apart-more names name apart fresh p q h k e =
     last_of [] = refl
     last_of (n ∷ ns) = last_of ns
 
-pub names-more : (names : List (List ℕ)) (name : List ℕ) → AreNames names → process_named names name ≡ None → length names < most_processes → AreNames (names ++ name ∷ [])
+pub names-more : (names : List (List ℕ)) (name : List ℕ) → AreNames names → process_named names name ≡ None → length names < most_processes →
+    AreNames (names ++ name ∷ [])
 names-more names name h fresh room =
     let long = length-append names (name ∷ []) in
     record { few = omega arith; apart = apart-more names name h.apart fresh }
@@ -119,6 +128,7 @@ numbered-names n few =
     record {
       few = omega arith;
       apart = λ p q h k e.
-          let first : (48 + p) ∷ [] ≡ (48 + q) ∷ [] = sym (digit_at p (omega arith)) ∙ sym (numbered-at n p (omega arith)) ∙ e ∙ numbered-at n q (omega arith) ∙ digit_at q (omega arith) in
+          let first : (48 + p) ∷ [] ≡ (48 + q) ∷ [] = sym (digit_at p (omega arith)) ∙ sym (numbered-at n p (omega arith)) ∙ e ∙ numbered-at n q (omega arith)
+          ∙ digit_at q (omega arith) in
           let same : 48 + p ≡ 48 + q = cc in omega arith;
     }

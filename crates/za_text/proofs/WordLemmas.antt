@@ -1,5 +1,6 @@
 -- Where the first word of a line stands.
-use Rattle.std.proofs.Common.{◌≡◌, ℕ, ◌+◌, ◌-◌, ◌<◌, ◌∙◌, sym, ap, Bool, true, false, cond, not, ◌==◌, List, [], ◌∷◌, length, take, drop, refl, drop-drop, arith}
+use Rattle.std.proofs.Common.{◌≡◌, ℕ, ◌+◌, ◌-◌, ◌<◌, ◌∙◌, sym, ap, Bool, true, false, cond, not, ◌==◌, List, [], ◌∷◌, length, take, drop, refl, drop-drop}
+use Rattle.std.proofs.Common.{arith}
 use Rattle.std.specs.Prelude.{slice_range}
 use Rattle.std.proofs.Math.Numerals.{one-add}
 use Rattle.std.specs.List.{prefix_len, filter}
@@ -29,7 +30,8 @@ stops p [] = refl
 stops p (b ∷ bs) = stops_at p (p b) b bs refl (stops p bs)
 
 pieces_at : (gap : Bool) (b : ℕ) (bs : List ℕ) → pieces bs ≡ take (run bs) bs ∷ pieces_after (drop (run bs) bs)
-    → cond gap ([] ∷ pieces bs) (put_first b (pieces bs)) ≡ take (cond (not gap) (1 + run bs) 0) (b ∷ bs) ∷ pieces_after (drop (cond (not gap) (1 + run bs) 0) (b ∷ bs))
+    → cond gap ([] ∷ pieces bs) (put_first b (pieces bs))
+    ≡ take (cond (not gap) (1 + run bs) 0) (b ∷ bs) ∷ pieces_after (drop (cond (not gap) (1 + run bs) 0) (b ∷ bs))
 pieces_at true b bs h = refl
 pieces_at false b bs h = rw h (rw one-add)
 

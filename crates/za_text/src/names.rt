@@ -17,11 +17,11 @@ pub struct Names {
 
 impl Model for Names {
     ghost use Rattle.std.specs.Prelude.{List, ℕ};
-    ghost use Rattle.za_text.specs.Private.NamesInside.{names_of, AreNamesInside};
+    ghost use Rattle.za_text.specs.Private.NamesInside.{names_inside, AreNamesInside};
 
     ghost Value = { List (List ℕ) };
 
-    ghost view = { names_of };
+    ghost view = { names_inside };
 
     ghost invariant = { AreNamesInside };
 }

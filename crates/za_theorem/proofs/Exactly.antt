@@ -3,7 +3,7 @@ use Rattle.std.proofs.Common.{◌≡◌, ℕ, zero, suc, Bool, List, refl, sym, 
 use Rattle.za_alpha.specs.Words.{IsAlphabet, IsWord}
 use Rattle.za_dfa.specs.Automata.{Automaton, is_accepted}
 use Rattle.za_theorem.specs.Asynchronous.{IsAsynchronous, accepts_word}
-use Rattle.za_theorem.specs.Languages.{AreProcesses, Accepts, IsRegular, IsDiamondRegular, IsClosed, IsDistributable}
+use Rattle.za_theorem.specs.Languages.{AreProcesses, Accepts, IsRegular, IsDiamondRegular, IsClosedLanguage, IsDistributable}
 use Rattle.za_theorem.specs.Laws.{DistributableByDiamonds, ZielonkasTheorem, ClosedIsDistributable}
 use Rattle.za_theorem.proofs.Theorem.{diamonds_give_asynchronous}
 use Rattle.za_theorem.proofs.Moves.{asynchronous_is_closed}
@@ -33,10 +33,10 @@ module _ (loc : ℕ → List ℕ) (letters n : ℕ) (language : List ℕ → Boo
         },
       )
 
-  pub to-closed : IsDistributable loc letters n language → IsClosed loc letters language
+  pub to-closed : IsDistributable loc letters n language → IsClosedLanguage loc letters language
   to-closed h u v wu wv e = sym (h.1.words u wu) ∙ (asynchronous_is_closed loc n h.0 u v e).1 ∙ h.1.words v wv
 
-  from-closed : IsRegular letters language → IsClosed loc letters language → IsDiamondRegular loc letters language
+  from-closed : IsRegular letters language → IsClosedLanguage loc letters language → IsDiamondRegular loc letters language
   from-closed r closed =
       let d : Automaton = r.0 in
       let e = r.1.same_letters in
@@ -58,7 +58,7 @@ distributable_by_diamonds loc letters n language alphabet =
     (to-diamonds loc letters n language alphabet.below, from-diamonds loc letters n language alphabet)
 
 from-regular : (loc : ℕ → List ℕ) (letters n : ℕ) (language : List ℕ → Bool) → AreProcesses loc letters n → IsRegular letters language →
-    IsClosed loc letters language → IsDistributable loc letters n language
+    IsClosedLanguage loc letters language → IsDistributable loc letters n language
 from-regular loc letters zero language inside regular closed = nobody-distributable loc letters language inside closed
 from-regular loc letters (suc n) language inside regular closed =
     let d = from-closed loc letters (suc n) language regular closed in

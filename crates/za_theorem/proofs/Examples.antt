@@ -1,5 +1,6 @@
 -- The definitions at small values, and examples that show that no premise of the laws can be left out.
-use Rattle.std.proofs.Common.{◌≡◌, ℕ, zero, suc, ◌+◌, ◌<◌, Bool, true, false, ◌==◌, List, [], ◌∷◌, ◌++◌, get_or, map, replicate, if◌then◌else◌, refl, sym, ap, subst, ◌∙◌, arith, eqb-true, eq-eqb}
+use Rattle.std.proofs.Common.{◌≡◌, ℕ, zero, suc, ◌+◌, ◌<◌, Bool, true, false, ◌==◌, List, [], ◌∷◌, ◌++◌, get_or, map, replicate, if◌then◌else◌, refl, sym, ap}
+use Rattle.std.proofs.Common.{subst, ◌∙◌, arith, eqb-true, eq-eqb}
 use Rattle.std.specs.Prelude.{filter}
 use Rattle.std.specs.List.{range_with_len}
 use Rattle.std.proofs.lemmas.List.Elements.{All-nil, All-cons, All-append}
@@ -13,7 +14,7 @@ use Rattle.za_order.proofs.Least.{pigeonhole}
 use Rattle.za_dfa.specs.Automata.{Automaton, IsTotal, walk, is_accepted, HasDiamonds}
 use Rattle.za_dfa.proofs.Diamonds.{walk-append, walk-below}
 use Rattle.za_theorem.specs.Asynchronous.{Asynchronous, moved, accepts_word}
-use Rattle.za_theorem.specs.Languages.{Accepts, IsRegular, IsDiamondRegular, IsClosed, IsDistributable}
+use Rattle.za_theorem.specs.Languages.{Accepts, IsRegular, IsDiamondRegular, IsClosedLanguage, IsDistributable}
 use Rattle.za_theorem.specs.Codes.{joined}
 use Rattle.za_theorem.proofs.SetNumbers.{bit-below}
 use Rattle.za_theorem.proofs.Moves.{asynchronous_is_closed}
@@ -63,7 +64,7 @@ swapped : AreEquivalent both (0 ∷ 1 ∷ []) (1 ∷ 0 ∷ [])
 swapped = swap-sound both (0 ∷ 1 ∷ []) (1 ∷ 0 ∷ []) (record { before = []; left = 0; right = 1; after = []; apart = refl; from = refl; to = refl })
 
 -- so a language with one of these words alone is not trace-closed
-one-alone-open : (language : List ℕ → Bool) → language (0 ∷ 1 ∷ []) ≡ true → language (1 ∷ 0 ∷ []) ≡ false → IsClosed both 2 language → ⊥
+one-alone-open : (language : List ℕ → Bool) → language (0 ∷ 1 ∷ []) ≡ true → language (1 ∷ 0 ∷ []) ≡ false → IsClosedLanguage both 2 language → ⊥
 one-alone-open language h k closed = let e : true ≡ false = sym h ∙ closed (0 ∷ 1 ∷ []) (1 ∷ 0 ∷ []) word-one word-two swapped ∙ k in cc
 
 -- without a diamond: the automaton that knows the last letter is complete, and its language is not trace-closed
@@ -76,7 +77,7 @@ last-total = record { starts = omega arith; steps = λ q a l m. m }
 last-broken : HasDiamonds both last → ⊥
 last-broken h = let e : true ≡ false = ap last.accepts (h 0 0 1 (omega arith) (omega arith) (omega arith) refl) in cc
 
-last-open : IsClosed both 2 (is_accepted last) → ⊥
+last-open : IsClosedLanguage both 2 (is_accepted last) → ⊥
 last-open = one-alone-open (is_accepted last) refl refl
 
 last-not : IsDistributable both 2 2 (is_accepted last) → ⊥
@@ -97,7 +98,7 @@ peeking = record {
 abbrev peeks : List ℕ → Bool
 peeks w = peeking.accepts (map (walk (peeked both 2 peeking) peeking.start w) (range_with_len 0 2))
 
-peeks-open : IsClosed both 2 peeks → ⊥
+peeks-open : IsClosedLanguage both 2 peeks → ⊥
 peeks-open = one-alone-open peeks refl refl
 
 -- the words of one letter with an even length
@@ -129,7 +130,7 @@ all-seen : (w : List ℕ) → filter (λ a. has (elsewhere a) 0) w ≡ w
 all-seen [] = refl
 all-seen (a ∷ w) = ap (λ v. a ∷ v) (all-seen w)
 
-elsewhere-closed : IsClosed elsewhere 1 is_even
+elsewhere-closed : IsClosedLanguage elsewhere 1 is_even
 elsewhere-closed u v wu wv e = ap is_even (sym (all-seen u) ∙ e 0 ∙ all-seen v)
 
 elsewhere-regular : IsRegular 1 is_even
@@ -160,7 +161,7 @@ counting = record { states = λ p. 0; start = λ p. 0; next = λ a xs p. suc (ge
 abbrev counts : List ℕ → Bool
 counts w = accepts_word both 2 counting w
 
-counts-closed : IsClosed both 2 counts
+counts-closed : IsClosedLanguage both 2 counts
 counts-closed u v wu wv e = (asynchronous_is_closed both 2 counting u v e).1
 
 abbrev times : ℕ → ℕ → List ℕ

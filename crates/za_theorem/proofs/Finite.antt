@@ -1,5 +1,6 @@
 -- Local states are lists of fixed lengths of numbers below fixed bounds, and so each is one number below a bound.
-use Rattle.std.proofs.Common.{◌≡◌, ℕ, zero, suc, ◌*◌, ◌/◌, ◌%◌, ◌^◌, ◌<◌, true, ◌==◌, inl, inr, List, [], ◌∷◌, ◌++◌, length, map, flat_map, replicate, Option, Some, None, refl, sym, ap, ◌∙◌, arith, eqb-true, subst}
+use Rattle.std.proofs.Common.{◌≡◌, ℕ, zero, suc, ◌*◌, ◌/◌, ◌%◌, ◌^◌, ◌<◌, true, ◌==◌, inl, inr, List, [], ◌∷◌, ◌++◌, length, map, flat_map, replicate, Option}
+use Rattle.std.proofs.Common.{Some, None, refl, sym, ap, ◌∙◌, arith, eqb-true, subst}
 use Rattle.std.specs.List.{range_with_len}
 use Rattle.std.proofs.lemmas.Bool.{or_cases}
 use Rattle.std.proofs.lemmas.Nat.{mod_below}

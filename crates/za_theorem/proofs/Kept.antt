@@ -1,5 +1,6 @@
 -- The numbers of entries and the values of residues, read from the numbers of a local state.
-use Rattle.std.proofs.Common.{◌≡◌, ℕ, ◌+◌, ◌*◌, ◌^◌, ◌<◌, true, false, ◌&&◌, inl, inr, List, ◌++◌, if◌then◌else◌, length, get_or, map, flat_map, sym, ap, ◌∙◌, arith}
+use Rattle.std.proofs.Common.{◌≡◌, ℕ, ◌+◌, ◌*◌, ◌^◌, ◌<◌, true, false, ◌&&◌, inl, inr, List, ◌++◌, if◌then◌else◌, length, get_or, map, flat_map, sym, ap, ◌∙◌}
+use Rattle.std.proofs.Common.{arith}
 use Rattle.std.specs.Prelude.{nat_lt}
 use Rattle.std.specs.List.{range_with_len}
 use Rattle.std.proofs.Math.Nat.{mul_assoc}

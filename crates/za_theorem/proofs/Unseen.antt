@@ -8,7 +8,7 @@ use Rattle.za_alpha.proofs.Swaps.{meets-elim, meets-intro, seen-skip}
 use Rattle.za_order.proofs.Sets.{has-cases}
 use Rattle.za_dfa.specs.Automata.{Automaton, walk, HasDiamonds}
 use Rattle.za_theorem.specs.Asynchronous.{Asynchronous, moved}
-use Rattle.za_theorem.specs.Languages.{AreProcesses, IsClosed, AcceptsLocally, IsDistributable}
+use Rattle.za_theorem.specs.Languages.{AreProcesses, IsClosedLanguage, AcceptsLocally, IsDistributable}
 use Rattle.za_theorem.proofs.Seen.{is_some, seen, seen-on, seen-off, seen-equivalent, seen-word, or_zero, or_zero-has, or_zero-same, is-some}
 use Rattle.za_theorem.proofs.Moves.{after-seen}
 
@@ -43,7 +43,7 @@ module _ (loc : ℕ → List ℕ) where
   pub filled-diamonds : (d : Automaton) → HasDiamonds loc d → HasDiamonds (filled loc) d
   filled-diamonds d h q a b l la lb i = h q a b l la lb (apart-before a b i)
 
-  module _ (letters n : ℕ) (z : Asynchronous) (language : List ℕ → Bool) (closed : IsClosed loc letters language)
+  module _ (letters n : ℕ) (z : Asynchronous) (language : List ℕ → Bool) (closed : IsClosedLanguage loc letters language)
       (accepts : AcceptsLocally (filled loc) letters n z language) where
     -- letters with a participant have the same moves
     moved-filled : (g : ℕ → ℕ) (a : ℕ) → is_some (loc a) ≡ true → moved loc z g a ≡ moved (filled loc) z g a
@@ -86,7 +86,7 @@ module _ (loc : ℕ → List ℕ) where
     | inr f ↦ seen-skip loc p a w f ∙ nothing-seen letters w inside (All-tail (λ b. b < letters) a w word) p
   ]
 
-  pub nobody-distributable : (letters : ℕ) (language : List ℕ → Bool) → AreProcesses loc letters 0 → IsClosed loc letters language →
+  pub nobody-distributable : (letters : ℕ) (language : List ℕ → Bool) → AreProcesses loc letters 0 → IsClosedLanguage loc letters language →
       IsDistributable loc letters 0 language
   nobody-distributable letters language inside closed = (
     record { states = λ p. 1; start = λ p. 0; next = λ a xs p. 0; accepts = λ xs. language [] },

@@ -23,8 +23,8 @@ abbrev pub IsDiamondRegular : (ℕ → List ℕ) → ℕ → (List ℕ → Bool)
 IsDiamondRegular loc letters language = (d : Automaton) × Accepts letters d language × HasDiamonds loc d
 
 -- trace-closed: of two equivalent words both are in the language, or neither
-abbrev pub IsClosed : (ℕ → List ℕ) → ℕ → (List ℕ → Bool) → Type 0
-IsClosed loc letters language =
+abbrev pub IsClosedLanguage : (ℕ → List ℕ) → ℕ → (List ℕ → Bool) → Type 0
+IsClosedLanguage loc letters language =
     (u v : List ℕ) → IsWord letters u → IsWord letters v → AreEquivalent loc u v → language u ≡ language v
 
 -- the asynchronous automaton has finitely many local states of each process, and accepts the words of the language and

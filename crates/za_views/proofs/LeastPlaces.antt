@@ -25,7 +25,8 @@ least-of ps n p x b t l =
     ]
 
 -- tests that agree below the bound have one least
-pub least-same : (marks taken : ℕ → Bool) (bound : ℕ) → ((j : ℕ) → j < bound → marks j ≡ taken j) → least (λ k. not (marks k)) bound ≡ least (λ k. not (taken k)) bound
+pub least-same : (marks taken : ℕ → Bool) (bound : ℕ) → ((j : ℕ) → j < bound → marks j ≡ taken j) →
+    least (λ k. not (marks k)) bound ≡ least (λ k. not (taken k)) bound
 least-same marks taken zero same = refl
 least-same marks taken (suc n) same =
     let rest = least-same (λ k. marks (suc k)) (λ k. taken (suc k)) n (λ j l. same (suc j) (omega arith)) in

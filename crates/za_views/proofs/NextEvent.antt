@@ -11,14 +11,14 @@ use Rattle.za_order.proofs.Steps.{primary_of_participant, primary_kept}
 use Rattle.za_views.specs.declared.events.Event.{Event}
 use Rattle.za_views.specs.Private.Events.{no_event, event_at, entry, known_by}
 use Rattle.za_views.specs.Private.Newest.{IsJoined}
-use Rattle.za_views.specs.Private.Kept.{AreMarked}
+use Rattle.za_views.specs.Private.Kept.{AreKept}
 use Rattle.za_order.proofs.Prefixes.{Agree, primary-same, last-same, label-same}
 use Rattle.za_views.proofs.Knowledge.{joined-is}
 use Rattle.za_views.proofs.MarkedEntries.{first-is}
 
 -- the events that a word has are those of a longer one
 pub marked-longer : {loc : ℕ → List ℕ} {letters processes : ℕ} {w v : List ℕ} {n : ℕ} {events : List Event} {own : List (Option ℕ)} →
-    AreMarked loc processes w n events own → Agree loc letters processes n w v → AreMarked loc processes v n events own
+    AreKept loc processes w n events own → Agree loc letters processes n w v → AreKept loc processes v n events own
 marked-longer {loc = loc} {letters = letters} {processes = processes} {w = w} {v = v} {n = n} marked agree =
     let same : (j : ℕ) → j < n → participants loc w j ≡ participants loc v j = λ j l. ap loc (agree.same j l) in
     record {
@@ -30,7 +30,8 @@ marked-longer {loc = loc} {letters = letters} {processes = processes} {w = w} {v
     }
 
 -- the event is the event n of the word, and the row has the last events after it
-pub record IsNext (loc : ℕ → List ℕ) (processes : ℕ) (w : List ℕ) (n : ℕ) (events : List Event) (own : List (Option ℕ)) (event : Event) (after : List (Option ℕ)) : Type 0 where
+pub record IsNext (loc : ℕ → List ℕ) (processes : ℕ) (w : List ℕ) (n : ℕ) (events : List Event) (own : List (Option ℕ)) (event : Event)
+    (after : List (Option ℕ)) : Type 0 where
   pub letter : event.letter.0 ≡ slice_index w n
   pub labelled : event.label ≡ label loc processes w n
   pub past : (q : ℕ) → q < processes → IsJoined (participants loc w n) processes n q (known_by events own q) (entry event.past q)
@@ -38,13 +39,14 @@ pub record IsNext (loc : ℕ → List ℕ) (processes : ℕ) (w : List ℕ) (n :
 
 module _ {loc : ℕ → List ℕ} {letters processes : ℕ} {w : List ℕ} {n : ℕ} {events : List Event} {own : List (Option ℕ)} {event : Event} {after : List (Option ℕ)}
     (over : IsOver loc letters processes w) (long : n < length w)
-    (marked : AreMarked loc processes w n events own) (next : IsNext loc processes w n events own event after) where
+    (marked : AreKept loc processes w n events own) (next : IsNext loc processes w n events own event after) where
   -- the events before stay
   event-before : (i : ℕ) → i < n → event_at (events ++ event ∷ []) i ≡ event_at events i
   event-before i l = get_or_append_left events (event ∷ []) no_event i (let c = marked.count in omega arith)
 
   -- what holds of each event before and of the last
-  each-event : (P : ℕ → Event → Type 0) → ((i : ℕ) → i < n → P i (event_at events i)) → P n event → (i : ℕ) → i < suc n → P i (event_at (events ++ event ∷ []) i)
+  each-event : (P : ℕ → Event → Type 0) → ((i : ℕ) → i < n → P i (event_at events i)) → P n event → (i : ℕ) → i < suc n →
+      P i (event_at (events ++ event ∷ []) i)
   each-event P before here i l =
       elim (cases_eq i n) [
         | inl same ↦ subst (λ k. P k (event_at (events ++ event ∷ []) k)) (sym same) (subst (P n) (sym (get_or_push events event no_event n marked.count)) here)
@@ -62,13 +64,15 @@ module _ {loc : ℕ → List ℕ} {letters processes : ℕ} {w : List ℕ} {n : 
   last-is : (p : ℕ) → p < processes → entry after p ≡ primary (participants loc w) (suc n) p p
   last-is p l =
       elim (cases_Bool (has (participants loc w n) p)) [
-        | inl t ↦ next.last p l ∙ cond-true (has (participants loc w n) p) (Some n) (entry own p) t ∙ sym (primary_of_participant (participants loc w) n p p t t)
+        | inl t ↦ next.last p l ∙ cond-true (has (participants loc w n) p) (Some n) (entry own p) t
+            ∙ sym (primary_of_participant (participants loc w) n p p t t)
         | inr f ↦
-            next.last p l ∙ cond-false (has (participants loc w n) p) (Some n) (entry own p) f ∙ marked.last p l ∙ sym (primary_kept (participants loc w) n p p f)
+            next.last p l ∙ cond-false (has (participants loc w n) p) (Some n) (entry own p) f ∙ marked.last p l
+            ∙ sym (primary_kept (participants loc w) n p p f)
       ]
 
   -- so the events are marked
-  pub marked-next : AreMarked loc processes w (suc n) (events ++ event ∷ []) after
+  pub marked-next : AreKept loc processes w (suc n) (events ++ event ∷ []) after
   marked-next = record {
     count = let c = marked.count in omega (arith, length_push events event);
     letters = each-event (λ i e. e.letter.0 ≡ slice_index w i) marked.letters next.letter;

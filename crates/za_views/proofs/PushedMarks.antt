@@ -1,5 +1,6 @@
 -- Marks after a push.
-use Rattle.std.proofs.Common.{◌≡◌, ℕ, suc, ◌<◌, ◌≤◌, List, [], ◌∷◌, ◌++◌, length, slice_index, Option, Some, IsTrue, IfSome, refl, sym, ap, subst, ◌∙◌, arith, if◌then◌else◌}
+use Rattle.std.proofs.Common.{◌≡◌, ℕ, suc, ◌<◌, ◌≤◌, List, [], ◌∷◌, ◌++◌, length, slice_index, Option, Some, IsTrue, IfSome, refl, sym, ap, subst, ◌∙◌, arith}
+use Rattle.std.proofs.Common.{if◌then◌else◌}
 use Rattle.std.proofs.lemmas.List.{get_or_append_left, get_or_push, length_push, length-map, map_push}
 use Rattle.std.proofs.lemmas.List.Elements.{All-push}
 use Rattle.za_alpha.specs.Limits.{most_processes}
@@ -19,7 +20,7 @@ use Rattle.za_views.specs.Private.Events.{entry, known_by, AreEvents, AreLabelle
 use Rattle.za_views.specs.Marks.{MarkedWord}
 use Rattle.za_views.specs.Private.Newest.{IsJoined}
 use Rattle.za_views.specs.Private.Taken.{least_untaken}
-use Rattle.za_views.specs.Private.Kept.{word_of_events, marked_word, AreMarked, IsKept}
+use Rattle.za_views.specs.Private.Kept.{word_of_events, marked_word, AreKept, IsKept}
 use Rattle.za_views.proofs.MarkedEntries.{own-among}
 use Rattle.za_views.proofs.MarkedLabels.{are-labelled, least-untaken-is}
 use Rattle.za_views.proofs.NextEvent.{marked-longer, IsNext, marked-next}
@@ -29,25 +30,27 @@ pub record IsPush (alphabet : DistributedAlphabet) (processes : ℕ) (takes : Li
   pub distributed : IsDistributed alphabet
   pub count : processes ≡ alphabet.processes
   pub word : IsWord (length alphabet.letters) (word_of_events events)
-  pub marked : AreMarked (loc_of alphabet) processes (word_of_events events) (length events) events own
+  pub marked : AreKept (loc_of alphabet) processes (word_of_events events) (length events) events own
   pub letter : a < length alphabet.letters
   pub located : takes ≡ loc_of alphabet a
 
 -- marks and a letter of their alphabet are such
-pub push-of : {inside : Inside} {m : MarkedWord} {processes : ℕ} {takes : Procs} {events : List Event} {a : ℕ} → IsKept inside → marked_word inside ≡ m → processes ≡ inside.alphabet.processes → takes ≡ procs_at inside.alphabet.letters a →
+pub push-of : {inside : Inside} {m : MarkedWord} {processes : ℕ} {takes : Procs} {events : List Event} {a : ℕ} → IsKept inside → marked_word inside ≡ m →
+    processes ≡ inside.alphabet.processes → takes ≡ procs_at inside.alphabet.letters a →
     events ≡ inside.events.items → a < length m.alphabet.letters → IsPush inside.alphabet processes (members takes) events inside.own a
 push-of {inside = inside} {processes = processes} {events = events} {a = a} kept view count located same letter = record {
   distributed = kept.alphabet;
   count = count;
   word = subst (λ es. IsWord (length inside.alphabet.letters) (word_of_events es)) (sym same) kept.word;
   marked =
-      subst (λ n. AreMarked (loc_of inside.alphabet) n (word_of_events events) (length events) events inside.own) (sym count)
-      (subst (λ es. AreMarked (loc_of inside.alphabet) inside.alphabet.processes (word_of_events es) (length es) es inside.own) (sym same) kept.marked);
+      subst (λ n. AreKept (loc_of inside.alphabet) n (word_of_events events) (length events) events inside.own) (sym count)
+      (subst (λ es. AreKept (loc_of inside.alphabet) inside.alphabet.processes (word_of_events es) (length es) es inside.own) (sym same) kept.marked);
   letter = subst (λ m. a < length m.alphabet.letters) (sym view) letter;
   located = ap members located;
 }
 
-module _ {alphabet : DistributedAlphabet} {processes : ℕ} {takes : List ℕ} {events : List Event} {own : List (Option ℕ)} {a : ℕ} (push : IsPush alphabet processes takes events own a) where
+module _ {alphabet : DistributedAlphabet} {processes : ℕ} {takes : List ℕ} {events : List Event} {own : List (Option ℕ)} {a : ℕ}
+    (push : IsPush alphabet processes takes events own a) where
   -- the longer word
   abbrev longer : List ℕ
   longer = word_of_events events ++ a ∷ []
@@ -106,7 +109,7 @@ module _ {alphabet : DistributedAlphabet} {processes : ℕ} {takes : List ℕ} {
   last-there = let e = length-word in omega (arith, length_push (word_of_events events) a)
 
   -- the events are marked as those of the longer word
-  marked-before : AreMarked (loc_of alphabet) processes longer (length events) events own
+  marked-before : AreKept (loc_of alphabet) processes longer (length events) events own
   marked-before =
       marked-longer push.marked
       (record {
@@ -128,10 +131,11 @@ module _ {alphabet : DistributedAlphabet} {processes : ℕ} {takes : List ℕ} {
       ∙ least-untaken-is marked-before x over-longer last-there few refl
 
   -- and the events are marked after it
-  pub pushed-marked : (event : Event) (after : List (Option ℕ)) (all : List Event) → event.letter.0 ≡ a → event.label ≡ label (loc_of alphabet) processes longer (length events) →
+  pub pushed-marked : (event : Event) (after : List (Option ℕ)) (all : List Event) → event.letter.0 ≡ a →
+      event.label ≡ label (loc_of alphabet) processes longer (length events) →
       ((q : ℕ) → q < processes → IsJoined takes processes (length events) q (known_by events own q) (entry event.past q)) →
       ((p : ℕ) → p < processes → entry after p ≡ (if has takes p then Some (length events) else entry own p)) →
-      all ≡ events ++ event ∷ [] → AreMarked (loc_of alphabet) alphabet.processes (word_of_events all) (length all) all after
+      all ≡ events ++ event ∷ [] → AreKept (loc_of alphabet) alphabet.processes (word_of_events all) (length all) all after
   pushed-marked event after all letter labelled past last pushed =
       let next : IsNext (loc_of alphabet) processes longer (length events) events own event after = record {
         letter = letter ∙ sym letter-last;
@@ -140,30 +144,37 @@ module _ {alphabet : DistributedAlphabet} {processes : ℕ} {takes : List ℕ} {
         last = subst (λ ps. (p : ℕ) → p < processes → entry after p ≡ (if has ps p then Some (length events) else entry own p)) takes-last last;
       } in
       let marked = marked-next over-longer last-there marked-before next in
-      let word : word_of_events (events ++ event ∷ []) ≡ longer = map_push (λ (e : Event). e.letter.0) events event ∙ ap (λ b. word_of_events events ++ b ∷ []) letter in
+      let word : word_of_events (events ++ event ∷ []) ≡ longer = map_push (λ (e : Event). e.letter.0) events event
+      ∙ ap (λ b. word_of_events events ++ b ∷ []) letter in
       let count : length (events ++ event ∷ []) ≡ suc (length events) = omega (arith, length_push events event) in
-      subst (λ es. AreMarked (loc_of alphabet) alphabet.processes (word_of_events es) (length es) es after) (sym pushed)
-      (subst (λ k. AreMarked (loc_of alphabet) k (word_of_events (events ++ event ∷ [])) (length (events ++ event ∷ [])) (events ++ event ∷ []) after) push.count
-      (subst (λ w. AreMarked (loc_of alphabet) processes w (length (events ++ event ∷ [])) (events ++ event ∷ []) after) (sym word)
-      (subst (λ n. AreMarked (loc_of alphabet) processes longer n (events ++ event ∷ []) after) (sym count) marked)))
+      subst (λ es. AreKept (loc_of alphabet) alphabet.processes (word_of_events es) (length es) es after) (sym pushed)
+      (subst (λ k. AreKept (loc_of alphabet) k (word_of_events (events ++ event ∷ [])) (length (events ++ event ∷ [])) (events ++ event ∷ []) after)
+      push.count
+      (subst (λ w. AreKept (loc_of alphabet) processes w (length (events ++ event ∷ [])) (events ++ event ∷ []) after) (sym word)
+      (subst (λ n. AreKept (loc_of alphabet) processes longer n (events ++ event ∷ []) after) (sym count) marked)))
 
   -- which are a word of the alphabet
   pub pushed-word : (event : Event) (all : List Event) → event.letter.0 ≡ a → all ≡ events ++ event ∷ [] → IsWord (length alphabet.letters) (word_of_events all)
   pushed-word event all letter pushed =
-      let word : word_of_events (events ++ event ∷ []) ≡ longer = map_push (λ (e : Event). e.letter.0) events event ∙ ap (λ b. word_of_events events ++ b ∷ []) letter in
+      let word : word_of_events (events ++ event ∷ []) ≡ longer = map_push (λ (e : Event). e.letter.0) events event
+      ∙ ap (λ b. word_of_events events ++ b ∷ []) letter in
       subst (λ w. IsWord (length alphabet.letters) w) (sym (ap word_of_events pushed ∙ word)) word-longer
 
 -- the label in the words of a contract
-pub label-seen : (inside : Inside) (a : ℕ) {m : MarkedWord} {processes : ℕ} {events : List Event} → marked_word inside ≡ m → processes ≡ inside.alphabet.processes → events ≡ inside.events.items →
-    label (loc_of inside.alphabet) processes (word_of_events events ++ a ∷ []) (length events) ≡ label (loc_of m.alphabet) m.alphabet.processes (m.word ++ a ∷ []) (length m.word)
+pub label-seen : (inside : Inside) (a : ℕ) {m : MarkedWord} {processes : ℕ} {events : List Event} → marked_word inside ≡ m →
+    processes ≡ inside.alphabet.processes → events ≡ inside.events.items →
+    label (loc_of inside.alphabet) processes (word_of_events events ++ a ∷ []) (length events)
+    ≡ label (loc_of m.alphabet) m.alphabet.processes (m.word ++ a ∷ []) (length m.word)
 label-seen inside a {events = events} view count same =
     ap (λ n. label (loc_of inside.alphabet) n (word_of_events events ++ a ∷ []) (length events)) count
     ∙ ap (λ es. label (loc_of inside.alphabet) inside.alphabet.processes (word_of_events es ++ a ∷ []) (length es)) same
-    ∙ ap (label (loc_of inside.alphabet) inside.alphabet.processes (word_of_events inside.events.items ++ a ∷ [])) (sym (length-map inside.events.items (λ (e : Event). e.letter.0)))
+    ∙ ap (label (loc_of inside.alphabet) inside.alphabet.processes (word_of_events inside.events.items ++ a ∷ []))
+    (sym (length-map inside.events.items (λ (e : Event). e.letter.0)))
     ∙ ap (λ (m : MarkedWord). label (loc_of m.alphabet) m.alphabet.processes (m.word ++ a ∷ []) (length m.word)) view
 
 -- there is room for the event
-pub pushed-short : (inside : Inside) (event : Event) {m : MarkedWord} {all : List Event} → marked_word inside ≡ m → length m.word < m.room → all ≡ inside.events.items ++ event ∷ [] → length all ≤ inside.room
+pub pushed-short : (inside : Inside) (event : Event) {m : MarkedWord} {all : List Event} → marked_word inside ≡ m → length m.word < m.room →
+    all ≡ inside.events.items ++ event ∷ [] → length all ≤ inside.room
 pushed-short inside event view room pushed =
     let before : length (word_of_events inside.events.items) < inside.room = subst (λ m. length m.word < m.room) (sym view) room in
     let word = length-map inside.events.items (λ (e : Event). e.letter.0) in

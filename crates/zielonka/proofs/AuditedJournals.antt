@@ -1,5 +1,6 @@
 -- `audit` says yes to what `journal` writes.
-use Rattle.std.proofs.Common.{◌≡◌, ℕ, ◌+◌, ◌<◌, ◌||◌, ◌==◌, inl, inr, true, false, nat_lt, List, [], ◌∷◌, ◌++◌, length, take, drop, get_or, Bool, Some, None, refl, sym, ap, subst, ◌∙◌, arith, append_assoc}
+use Rattle.std.proofs.Common.{◌≡◌, ℕ, ◌+◌, ◌<◌, ◌||◌, ◌==◌, inl, inr, true, false, nat_lt, List, [], ◌∷◌, ◌++◌, length, take, drop, get_or, Bool, Some, None}
+use Rattle.std.proofs.Common.{refl, sym, ap, subst, ◌∙◌, arith, append_assoc}
 use Rattle.std.specs.Prelude.{if◌then◌else◌}
 use Rattle.std.specs.Io.KnownBytes.{Consumes}
 use Rattle.std.proofs.lemmas.Bool.{and_from, cases_lt, le-ltb, lt-ltb}
@@ -28,17 +29,18 @@ use Rattle.za_claim.specs.Audited.{audited_fault, audited_job, audited_claim}
 use Rattle.za_claim.specs.Claims.{ClaimData, AreClaimedEvents, HasLabel, blank_event, claimed_label, event_letters}
 use Rattle.za_claim.proofs.ReadBack.{follow}
 use Rattle.za_audit.specs.declared.verdict.Audit as verdict
-use Rattle.za_audit.specs.Verdicts.{can_fire, defined_label, letter_at, letters_before, AreRight, AreWhole, IsVerdict}
+use Rattle.za_audit.specs.Verdicts.{can_fire, defined_label, event_letter, letters_before, AreRight, AreWhole, IsVerdict}
 use Rattle.za_report.specs.Audits.{audit_text}
-use Rattle.zielonka.specs.declared.request.Command.TheVariants.{Journal, Audit}
+use Rattle.zielonka.specs.declared.request.Command.TheVariants.{Journal, Audit, Thaw}
 use Rattle.zielonka.specs.declared.request.Request.TheVariants.{Answer as Asks}
 use Rattle.zielonka.specs.Journals.{fired_event, fired_events, journal_of, journal_text}
-use Rattle.zielonka.specs.Output.{IsAnswered, Recorded, Audited, IsDueFor, Open, Answered, IsOutput, Refused, Read, SubjectData, subject_of, given, is_yes}
+use Rattle.zielonka.specs.Output.{IsAnswered, Recorded, Audited, IsDueFor, Open, Answered, IsOutput, Refused, NotOwn, Read, SubjectData, subject_of, given}
+use Rattle.zielonka.specs.Output.{is_yes}
 use Rattle.zielonka.specs.Run.{WroteAll}
 use Rattle.zielonka.specs.Shown.{IsClosed}
 use Rattle.zielonka.specs.Laws.{HasAnsweredAll}
 use Rattle.zielonka.specs.AuditedYes.{is_of_an_answer, IsAuditedYes, DueJournalsAreAuditedYes, JournalsAreAuditedYes}
-use Rattle.zielonka.proofs.Causes.{all_read, all_taken, one-command, read-not-job}
+use Rattle.zielonka.proofs.Causes.{all_read, all_taken, read-not-job}
 use Rattle.zielonka.proofs.Recording.{letters-of-events}
 use Rattle.zielonka.proofs.SomeVerdict.{yes-is}
 
@@ -99,7 +101,7 @@ module _ (job : JobData) (fine : IsJob job) (w : List ℕ)
       ap (λ (e : Event). e.label) (event-is i l) ∙ label-same loc m alphabet.processes (i + 1) w (take (i + 1) w) i agree (omega arith)
       ∙ ap (λ u. label loc alphabet.processes (take (i + 1) u) i) (sym letters)
 
-  fires : (i : ℕ) → i < length w → can_fire job (letters_before events i) (letter_at events i) ≡ true
+  fires : (i : ℕ) → i < length w → can_fire job (letters_before events i) (event_letter events i) ≡ true
   fires i l =
       let a = get_or w i 0 in
       let small : a < m = All-get_or (λ b. b < m) w i 0 l fits.fits.word in
@@ -174,7 +176,7 @@ module _ (bytes : List ℕ) (read : fault_of bytes ≡ None) (fine : IsJob (job_
           is = subst (λ (c : ClaimData). IsVerdict job c yes.0) (sym back.2) yes.1;
           yes = yes.2;
           due =
-              Read 0 said back.0 (subst (λ (s : SubjectData). IsJob s.job) (sym says) fine)
+              Read 0 said back.0 (subst (λ (s : SubjectData). IsJob s.job) (sym says) fine) tt
               (subst (λ (s : SubjectData). IsDueFor Audit s 0 said) (sym says) due);
         }
 
@@ -182,14 +184,16 @@ module _ (bytes : List ℕ) (read : fault_of bytes ≡ None) (fine : IsJob (job_
     by-answer : {status : ℕ} {text : List ℕ} → IsAnswered job None (Journal cache) status text → IsAuditedYes bytes text
     by-answer (Recorded same answer word is fits) = audited-yes word answer fits is
 
-by-due : (bytes : List ℕ) (cache : ℕ) {status : ℕ} {text : List ℕ} → fault_of bytes ≡ None → IsJob (job_of bytes) → IsDueFor (Journal cache) (subject_of (Journal cache) bytes) status text →
+by-due : (bytes : List ℕ) (cache : ℕ) {status : ℕ} {text : List ℕ} → fault_of bytes ≡ None → IsJob (job_of bytes) →
+    IsDueFor (Journal cache) (subject_of (Journal cache) bytes) status text →
     is_of_an_answer status ≡ true → IsAuditedYes bytes text
 by-due bytes cache read fine (Open k least) h = absurd (cc)
 by-due bytes cache read fine (Answered status text closed answered) h = by-answer bytes read fine closed cache answered
 
 pub due_journals : DueJournalsAreAuditedYes
 due_journals cache bytes status text (Refused fault wrong) h = absurd (cc)
-due_journals cache bytes status text (Read same said read fine due) h = by-due bytes cache read fine due h
+due_journals cache bytes status text (NotOwn fault thaw unlike) h = absurd (let both : Journal cache ≡ Thaw = thaw in cc)
+due_journals cache bytes status text (Read same said read fine own due) h = by-due bytes cache read fine due h
 
 -- a status of an answer is one of bytes
 of-bytes : (a b c d e : Bool) → (a || (b || (c || false))) ≡ true → (a || (b || (c || (d || (e || false))))) ≡ true
@@ -204,15 +208,14 @@ module _ (cache : ℕ) (bytes : List ℕ) (old new : Ends) (status : ℕ) (told 
 
   by-all : HasAnsweredAll (Asks (Journal cache)) old new status → HasWritten
   by-all said =
-      let text = said.2 in
-      let command = one-command said.0 (Journal cache) said.3 refl in
-      let same = all_taken bytes said.1 new.left (subst (λ left. Consumes left new.left said.1) told said.4.1) said.4.2 in
-      let output = subst (λ bs. IsOutput (Journal cache) bs status text) same (subst (λ c. IsOutput c said.1 status text) command said.5) in
-      (text, said.6, due_journals cache bytes status text output h)
+      let text = said.1 in
+      let same = all_taken bytes said.0 new.left (subst (λ left. Consumes left new.left said.0) told said.2.1) said.2.2 in
+      let output = subst (λ bs. IsOutput (Journal cache) bs status text) same said.3 in
+      (text, said.4, due_journals cache bytes status text output h)
 
 pub journals : JournalsAreAuditedYes
 journals cache bytes old new status run told h =
     elim (all_read (Asks (Journal cache)) old new status run (of-bytes (0 == status) (1 == status) (3 == status) (4 == status) (5 == status) h)) [
       | inl all ↦ by-all cache bytes old new status told h all
-      | inr generated ↦ absurd (read-not-job (Journal cache) generated.0 refl generated.2)
+      | inr generated ↦ absurd (read-not-job generated.0 refl generated.2)
     ]

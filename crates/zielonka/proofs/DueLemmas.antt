@@ -1,8 +1,7 @@
 -- What is due, by what the layers below answer.
-use Rattle.std.proofs.Common.{◌≡◌, ℕ, ◌<◌, ◌↔◌, inl, inr, true, false, List, [], ◌∷◌, length, Result, Ok, Err, sym, ap, subst, ◌∙◌, arith}
+use Rattle.std.proofs.Common.{◌≡◌, ℕ, ◌↔◌, inl, inr, true, false, List, [], length, Result, Ok, Err, sym, ap, subst, ◌∙◌, arith}
 use Rattle.std.specs.Prelude.{Bool, IsTrue, IfOk, Option}
 use Rattle.std.proofs.lemmas.Bool.{cases_Bool}
-use Rattle.std.proofs.lemmas.List.Elements.{All-cons, All-append}
 use Rattle.std.proofs.lemmas.List.{get_or_past}
 use Rattle.za_alpha.specs.Words.{IsWord, IsAlphabet, AreEquivalent}
 use Rattle.za_alpha.specs.Alphabet.{DistributedAlphabet, loc_of}
@@ -11,7 +10,6 @@ use Rattle.za_dfa.specs.Tables.{CompleteDfa, automaton_of, step_of}
 use Rattle.za_min.specs.declared.live.Hope.{Hope}
 use Rattle.za_min.specs.Live.{IsHope}
 use Rattle.za_min.specs.Minimal.{HaveSameLanguage, IsMinimalOf}
-use Rattle.za_closure.specs.Breaks.{Break, IsBreak, left_word, right_word}
 use Rattle.za_lang.specs.Jobs.{JobData, IsJob}
 use Rattle.za_report.specs.Texts.{answer_text}
 use Rattle.za_script.specs.declared.answer.Answer.{Answer}
@@ -44,7 +42,8 @@ ok_and (Ok x) P Q p q = (p, q)
 ok_and (Err e) P Q p q = p
 
 -- the answer depends on the language alone
-answer-moves : (loc : ℕ → List ℕ) (d e : Automaton) (scripts : ℕ → List ℕ) (a : Answer) → d.letters ≡ e.letters → HaveSameLanguage d e → IsAnswer loc d scripts a → IsAnswer loc e scripts a
+answer-moves : (loc : ℕ → List ℕ) (d e : Automaton) (scripts : ℕ → List ℕ) (a : Answer) → d.letters ≡ e.letters → HaveSameLanguage d e →
+    IsAnswer loc d scripts a → IsAnswer loc e scripts a
 answer-moves loc d e scripts Accept l s h = (h.0, subst (λ m. Weaves loc m scripts h.0) l h.1, sym (s h.0 h.1.word) ∙ h.2)
 answer-moves loc d e scripts Reject l s h =
     ((h.0.0, subst (λ m. Weaves loc m scripts h.0.0) l h.0.1), λ w v. let u = subst (λ m. Weaves loc m scripts w) (sym l) v in sym (s w u.word) ∙ h.1 w u)
@@ -89,10 +88,13 @@ stuck-exactly job fine woven word used answer right =
 
 -- the text of an answer is that of its run
 text-of-run : (job : JobData) (hope : Option Hope) (cache : ℕ) (text : List ℕ) (run : EndedState) → IsRunOf job run →
-    text ≡ answer_text job.naming.names job.lang.alphabet job.scripts (woven_of job) (answer_in run) hope cache → text ≡ answer_text_of job.naming.names run hope cache
+    text ≡ answer_text job.naming.names job.lang.alphabet job.scripts (woven_of job) (answer_in run) hope cache →
+    text ≡ answer_text_of job.naming.names run hope cache
 text-of-run job hope cache text run of e =
-    e ∙ ap (λ (a : DistributedAlphabet). answer_text job.naming.names a job.scripts (weave_of a job.scripts) (answer_in run) hope cache) (sym of.minimal.alphabet)
-    ∙ ap (λ (s : List (List ℕ)). answer_text job.naming.names run.given.dfa.alphabet s (weave_of run.given.dfa.alphabet s) (answer_in run) hope cache) (sym of.scripts)
+    e ∙ ap (λ (a : DistributedAlphabet). answer_text job.naming.names a job.scripts (weave_of a job.scripts) (answer_in run) hope cache)
+    (sym of.minimal.alphabet)
+    ∙ ap (λ (s : List (List ℕ)). answer_text job.naming.names run.given.dfa.alphabet s (weave_of run.given.dfa.alphabet s) (answer_in run) hope cache)
+    (sym of.scripts)
 
 -- the woven word is one over the letters of a minimal automaton
 pub woven-word : (job : JobData) (d : CompleteDfa) → IsJob job → IsMinimalOf d (given job) → IsWord (length d.alphabet.letters) (woven_of job)
@@ -114,7 +116,8 @@ hope-is job d fine closed minimal answer hope goes =
     let w : List ℕ = woven_of job in
     let letters : a.letters ≡ g.letters = ap (λ (k : DistributedAlphabet). length k.letters) minimal.alphabet in
     let located : IsAlphabet loc g.letters n = fine.lang.distributed.located in
-    let full : FitsMaximally loc a.letters scripts w = subst (λ m. FitsMaximally loc m scripts w) (sym letters) (weave_is_maximal loc g.letters n scripts located) in
+    let full : FitsMaximally loc a.letters scripts w =
+    subst (λ m. FitsMaximally loc m scripts w) (sym letters) (weave_is_maximal loc g.letters n scripts located) in
     let also : IsTraceClosed loc a = λ u v hu hv e. minimal.language u hu
     ∙ closed u v (subst (λ m. IsWord m u) letters hu) (subst (λ m. IsWord m v) letters hv) e ∙ sym (minimal.language v hv) in
     goes-map (IsHope a (walk a.step a.start w)) (IsHopeOf loc n g scripts) answer hope
@@ -175,19 +178,5 @@ module _ (job : JobData) (run : EndedState) (fine : IsJob job) (of : IsRunOf job
   run-maximal =
       let fits = reached_maximal (machine_of run.given) run.state machine of.over.reached of.over.over in
       subst (λ (b : DistributedAlphabet). FitsMaximally (loc_of b) (length b.letters) (script_of job.scripts) run.state.journal) same
-      (subst (λ (s : List (List ℕ)). FitsMaximally (loc_of run.given.dfa.alphabet) (length run.given.dfa.alphabet.letters) (script_of s) run.state.journal) of.scripts fits)
-
--- the two words of a break are words
-pub left-is-word : (loc : ℕ → List ℕ) (d : Automaton) (k : Break) → IsBreak loc d k → IsWord d.letters (left_word k)
-left-is-word loc d k b =
-    let o = b.order in
-    let l = b.letter in
-    All-append (λ c. c < d.letters) k.before (k.left ∷ k.right ∷ k.after) b.before_word
-    (All-cons (λ c. c < d.letters) k.left (k.right ∷ k.after) (omega arith) (All-cons (λ c. c < d.letters) k.right k.after b.letter b.after_word))
-
-pub right-is-word : (loc : ℕ → List ℕ) (d : Automaton) (k : Break) → IsBreak loc d k → IsWord d.letters (right_word k)
-right-is-word loc d k b =
-    let o = b.order in
-    let l = b.letter in
-    All-append (λ c. c < d.letters) k.before (k.right ∷ k.left ∷ k.after) b.before_word
-    (All-cons (λ c. c < d.letters) k.right (k.left ∷ k.after) b.letter (All-cons (λ c. c < d.letters) k.left k.after (omega arith) b.after_word))
+      (subst (λ (s : List (List ℕ)). FitsMaximally (loc_of run.given.dfa.alphabet) (length run.given.dfa.alphabet.letters) (script_of s) run.state.journal)
+      of.scripts fits)

@@ -5,9 +5,12 @@ pub mod JudgedLemmas
 pub mod RunLemmas
 pub mod Causes
 pub mod OneOutput
+pub mod FrozenLemmas
 pub mod SomeVerdict
 pub mod SomeOutput
 pub mod Exactly
+pub mod RestLemmas
 pub mod ShownLemmas
+pub mod GoingOn
 pub mod Headlines
 pub mod AuditedJournals

@@ -23,10 +23,13 @@ use Rattle.za_script.specs.ScriptLists.{script_of}
 use Rattle.za_hope.proofs.Hoping.{hopes_are_one}
 use Rattle.za_hope.specs.Jobs.{HasHope}
 use Rattle.za_report.specs.Texts.{answer_text, check_text, open_text, refused_text}
+use Rattle.za_freeze.specs.Thawing.{reading_fault, frozen_job, not_own_fault, IsNotOwn}
+use Rattle.za_freeze.proofs.Undone.{automaton-one}
 use Rattle.zielonka.specs.declared.request.Command.{Command}
-use Rattle.zielonka.specs.declared.request.Command.TheVariants.{Solo, Run, Check, Locals, Audit}
+use Rattle.zielonka.specs.declared.request.Command.TheVariants.{Solo, Run, Check, Locals, Audit, Thaw}
 use Rattle.za_report.specs.LocalStates.{locals_text}
-use Rattle.zielonka.specs.Output.{IsAnswered, Ran, RanOnThreads, Checked, Told, Recorded, Audited, IsDueFor, Open, Answered, IsOutput, Refused, Read, SubjectData, subject_of, fault_for, given, woven_of, status_of, status_of_verdict}
+use Rattle.zielonka.specs.Output.{IsAnswered, Ran, RanOnThreads, Checked, Told, Recorded, Audited, Thawed, IsDueFor, Open, Answered, IsOutput, Refused, NotOwn}
+use Rattle.zielonka.specs.Output.{Read, IsOwn, SubjectData, subject_of, fault_for, given, woven_of, status_of, status_of_verdict}
 use Rattle.zielonka.specs.Laws.{tells_the_order, OutputIsOne, ThreadsAnswerAsOne}
 
 -- one status and one text, unless it tells the order
@@ -58,7 +61,8 @@ answer-one loc d scripts Stuck Reject g h = absurd (g h.0.0 h.0.1)
 answer-one loc d scripts Stuck Stuck g h = refl
 
 -- what is due for a job by its number of states, by the automaton, by the answer, by the verdict
-answered-one : (job : JobData) (claim : Option ClaimData) (command : Command) (s t : ℕ) (x y : List ℕ) → IsAnswered job claim command s x → IsAnswered job claim command t y →
+answered-one : (job : JobData) (claim : Option ClaimData) (command : Command) (s t : ℕ) (x y : List ℕ) → IsAnswered job claim command s x →
+    IsAnswered job claim command t y →
     IsOne command s t x y
 answered-one job claim command s t x y (Ran cache a g right goes) (Ran same b h also too) =
     let loc = loc_of job.lang.alphabet in
@@ -80,6 +84,8 @@ answered-one job claim command s t x y (Audited about audit is right) (Audited o
     let one : about ≡ other = ap (λ o. unwrap_or o about) (sym is ∙ too) in
     let same = verdicts_are_one job other audit says (subst (λ (c : ClaimData). IsVerdict job c audit) one right) also in
     both-one Audit s t x y (ap status_of_verdict same) (ap (audit_text job.lang.alphabet) same)
+answered-one job claim command s t x y (Thawed status text one) (Thawed other said two) =
+    let same = answered-one job claim (Solo 0) status other text said one two in both-one Thaw status other text said same.0 (same.1 refl)
 
 -- a language with a break isn't closed
 pub not-both : (job : JobData) → IsJob job → (k : Break) → IsLeastBreak (loc_of job.lang.alphabet) (automaton_of (given job)) k →
@@ -87,7 +93,8 @@ pub not-both : (job : JobData) → IsJob job → (k : Break) → IsLeastBreak (l
 not-both job fine k least closed =
     (closed_is_unbroken (loc_of job.lang.alphabet) job.lang.alphabet.processes (automaton_of (given job)) fine.lang.distributed.located).0 closed k least.is
 
-due-one : (subject : SubjectData) (command : Command) (s t : ℕ) (x y : List ℕ) → IsJob subject.job → IsDueFor command subject s x → IsDueFor command subject t y →
+due-one : (subject : SubjectData) (command : Command) (s t : ℕ) (x y : List ℕ) → IsJob subject.job → IsDueFor command subject s x →
+    IsDueFor command subject t y →
     IsOne command s t x y
 due-one subject command s t x y fine (Open k least) (Open l also) =
     let alphabet = subject.job.lang.alphabet in
@@ -102,16 +109,43 @@ due-one subject command s t x y fine (Answered status text closed answered) (Ans
 pub not-read : (command : Command) (bytes : List ℕ) (fault : TextFault) → fault_for command bytes ≡ Some fault → fault_for command bytes ≡ None → ⊥
 not-read command bytes fault some none = let both : true ≡ false = ap is_some (sym some ∙ none) in absurd (cc)
 
+-- a text whose lines aren't its own is read
+pub unlike-read : (command : Command) (bytes : List ℕ) → command ≡ Thaw → reading_fault bytes ≡ None → fault_for command bytes ≡ None
+unlike-read command bytes thaw right = ap (λ (c : Command). fault_for c bytes) thaw ∙ right
+
+-- but they aren't its own
+pub not-own : (command : Command) (bytes : List ℕ) (fault : TextFault) → command ≡ Thaw → IsNotOwn bytes fault → IsOwn command bytes → ⊥
+not-own command bytes fault thaw unlike own =
+    let mine : IsOwn Thaw bytes = subst (λ (c : Command). IsOwn c bytes) thaw own in
+    let both : true ≡ false = ap is_some (sym unlike.1.2 ∙ mine unlike.1.0 unlike.1.1) in absurd (cc)
+
+-- the first of them is one
+not-own-one : (bytes : List ℕ) (f g : TextFault) → IsNotOwn bytes f → IsNotOwn bytes g → f ≡ g
+not-own-one bytes f g h k =
+    let d : CompleteDfa = h.1.0 in
+    let e : CompleteDfa = k.1.0 in
+    let one : d ≡ e = automaton-one (frozen_job bytes) d e h.1.1 k.1.1 in
+    ap (λ o. unwrap_or o f) (sym h.1.2 ∙ ap (λ (x : CompleteDfa). not_own_fault x bytes) one ∙ k.1.2)
+
 pub output_is_one : OutputIsOne
 output_is_one command bytes s t x y (Refused fault wrong) (Refused other also) =
     both-one command 4 4 x y refl (ap (λ (f : TextFault). refused_text f) (ap (λ o. unwrap_or o fault) (sym wrong ∙ also)))
-output_is_one command bytes s t x y (Refused fault wrong) (Read status text right fine due) = absurd (not-read command bytes fault wrong right)
-output_is_one command bytes s t x y (Read status text right fine due) (Refused fault wrong) = absurd (not-read command bytes fault wrong right)
-output_is_one command bytes s t x y (Read status text right fine due) (Read other said also too more) =
+output_is_one command bytes s t x y (Refused fault wrong) (NotOwn other thaw unlike) =
+    absurd (not-read command bytes fault wrong (unlike-read command bytes thaw unlike.0))
+output_is_one command bytes s t x y (Refused fault wrong) (Read status text right fine own due) = absurd (not-read command bytes fault wrong right)
+output_is_one command bytes s t x y (NotOwn other thaw unlike) (Refused fault wrong) =
+    absurd (not-read command bytes fault wrong (unlike-read command bytes thaw unlike.0))
+output_is_one command bytes s t x y (NotOwn fault thaw unlike) (NotOwn other also too) =
+    both-one command 4 4 x y refl (ap (λ (f : TextFault). refused_text f) (not-own-one bytes fault other unlike too))
+output_is_one command bytes s t x y (NotOwn fault thaw unlike) (Read status text right fine own due) = absurd (not-own command bytes fault thaw unlike own)
+output_is_one command bytes s t x y (Read status text right fine own due) (Refused fault wrong) = absurd (not-read command bytes fault wrong right)
+output_is_one command bytes s t x y (Read status text right fine own due) (NotOwn fault thaw unlike) = absurd (not-own command bytes fault thaw unlike own)
+output_is_one command bytes s t x y (Read status text right fine own due) (Read other said also too mine more) =
     due-one (subject_of command bytes) command status other text said fine due more
 
 -- what threads answer to a job is what one thread answers
-answered-to : (job : JobData) (claim : Option ClaimData) (cache status : ℕ) (text : List ℕ) → IsAnswered job claim (Run cache) status text → IsAnswered job claim (Solo cache) status text
+answered-to : (job : JobData) (claim : Option ClaimData) (cache status : ℕ) (text : List ℕ) → IsAnswered job claim (Run cache) status text →
+    IsAnswered job claim (Solo cache) status text
 answered-to job claim cache status text (RanOnThreads same s t answered) = answered
 
 due-to : (subject : SubjectData) (cache status : ℕ) (text : List ℕ) → IsDueFor (Run cache) subject status text → IsDueFor (Solo cache) subject status text
@@ -124,11 +158,13 @@ due-back subject cache status text (Answered s t closed answered) = Answered s t
 
 output-to : (cache : ℕ) (bytes : List ℕ) (status : ℕ) (text : List ℕ) → IsOutput (Run cache) bytes status text → IsOutput (Solo cache) bytes status text
 output-to cache bytes status text (Refused fault wrong) = Refused fault wrong
-output-to cache bytes status text (Read s t right fine due) = Read s t right fine (due-to (subject_of (Run cache) bytes) cache s t due)
+output-to cache bytes status text (NotOwn fault thaw unlike) = absurd (let both : Run cache ≡ Thaw = thaw in cc)
+output-to cache bytes status text (Read s t right fine own due) = Read s t right fine tt (due-to (subject_of (Run cache) bytes) cache s t due)
 
 output-back : (cache : ℕ) (bytes : List ℕ) (status : ℕ) (text : List ℕ) → IsOutput (Solo cache) bytes status text → IsOutput (Run cache) bytes status text
 output-back cache bytes status text (Refused fault wrong) = Refused fault wrong
-output-back cache bytes status text (Read s t right fine due) = Read s t right fine (due-back (subject_of (Solo cache) bytes) cache s t due)
+output-back cache bytes status text (NotOwn fault thaw unlike) = absurd (let both : Solo cache ≡ Thaw = thaw in cc)
+output-back cache bytes status text (Read s t right fine own due) = Read s t right fine tt (due-back (subject_of (Solo cache) bytes) cache s t due)
 
 pub threads_answer_as_one : ThreadsAnswerAsOne
 threads_answer_as_one cache bytes status text = (output-to cache bytes status text, output-back cache bytes status text)

@@ -14,7 +14,8 @@ use Rattle.zielonka.specs.Shown.{IsRunOf, journal_text_of}
 -- their letters are those of the word
 pub letters-of-events : (alphabet : DistributedAlphabet) (w : List ℕ) → event_letters (fired_events alphabet w) ≡ w
 letters-of-events alphabet w =
-    map-map (λ (e : Event). e.letter.0) (fired_event alphabet w) (range_with_len 0 (length w)) ∙ sym (fill_by_all (λ k. get_or w k 0) w (length w) 0 refl (λ k h. refl))
+    map-map (λ (e : Event). e.letter.0) (fired_event alphabet w) (range_with_len 0 (length w))
+    ∙ sym (fill_by_all (λ k. get_or w k 0) w (length w) 0 refl (λ k h. refl))
 
 -- the journal of a run of a job, over the job's alphabet
 pub journal-of-job : (job : JobData) (run : EndedState) → IsRunOf job run →

@@ -2,7 +2,7 @@
 use Rattle.std.proofs.Common.{◌≡◌, ℕ, true, false, List, Option, Some, None, refl, sym, ap}
 use Rattle.std.specs.Option.{option_map_or}
 use Rattle.za_command.specs.declared.plan.Plan.{Plan}
-use Rattle.za_command.specs.declared.plan.Plan.TheVariants.{Solo, Run, Check, Locals, Journal, Audit, Gen}
+use Rattle.za_command.specs.declared.plan.Plan.TheVariants.{Solo, Run, Check, Locals, Journal, Audit, Build, News, Thaw, Gen, Freeze}
 use Rattle.za_command.specs.Plans.{plan_of}
 use Rattle.zielonka.specs.Requests.{is_for_threads, request_of, request_in, are_for_threads}
 use Rattle.zielonka.specs.Shown.{runs_on_threads}
@@ -24,7 +24,11 @@ plain-by (Some (Check cache)) k e = of-one (asks.Check cache) k e
 plain-by (Some (Locals cache)) k e = of-one (asks.Locals cache) k e
 plain-by (Some (Journal cache)) k e = absurd (cc)
 plain-by (Some Audit) k e = of-one asks.Audit k e
+plain-by (Some Build) k e = absurd (cc)
+plain-by (Some News) k e = absurd (cc)
+plain-by (Some Thaw) k e = absurd (cc)
 plain-by (Some (Gen number)) k e = absurd (cc)
+plain-by (Some (Freeze cut)) k e = absurd (cc)
 
 pub plain-alone : (words : List (List ℕ)) (k : Command) → request_in Plain words ≡ Answer k → runs_on_threads k ≡ false
 plain-alone words k e = plain-by (plan_of words) k e
@@ -38,7 +42,11 @@ threaded-by (Some (Check cache)) k e = absurd (cc)
 threaded-by (Some (Locals cache)) k e = absurd (cc)
 threaded-by (Some (Journal cache)) k e = of-one (asks.Journal cache) k e
 threaded-by (Some Audit) k e = absurd (cc)
+threaded-by (Some Build) k e = absurd (cc)
+threaded-by (Some News) k e = absurd (cc)
+threaded-by (Some Thaw) k e = of-one asks.Thaw k e
 threaded-by (Some (Gen number)) k e = absurd (cc)
+threaded-by (Some (Freeze cut)) k e = absurd (cc)
 
 pub threaded-runs : (words : List (List ℕ)) (k : Command) → request_in Threaded words ≡ Answer k → runs_on_threads k ≡ true
 threaded-runs words k e = threaded-by (plan_of words) k e
@@ -52,7 +60,11 @@ top-by (Some (Check cache)) e = absurd (cc)
 top-by (Some (Locals cache)) e = absurd (cc)
 top-by (Some (Journal cache)) e = refl
 top-by (Some Audit) e = absurd (cc)
+top-by (Some Build) e = absurd (cc)
+top-by (Some News) e = absurd (cc)
+top-by (Some Thaw) e = refl
 top-by (Some (Gen number)) e = absurd (cc)
+top-by (Some (Freeze cut)) e = absurd (cc)
 
 pub top-threads : (words : List (List ℕ)) → are_for_threads words ≡ true → request_in Threaded words ≡ request_in Top words
 top-threads words e = top-by (plan_of words) e
@@ -65,7 +77,11 @@ alone-by (Some (Check cache)) e = refl
 alone-by (Some (Locals cache)) e = refl
 alone-by (Some (Journal cache)) e = absurd (cc)
 alone-by (Some Audit) e = refl
+alone-by (Some Build) e = refl
+alone-by (Some News) e = refl
+alone-by (Some Thaw) e = absurd (cc)
 alone-by (Some (Gen number)) e = refl
+alone-by (Some (Freeze cut)) e = refl
 
 pub top-alone : (words : List (List ℕ)) → are_for_threads words ≡ false → request_in Plain words ≡ request_in Top words
 top-alone words e = alone-by (plan_of words) e

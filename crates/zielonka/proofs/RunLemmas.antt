@@ -13,6 +13,12 @@ pub said-run : (asked : Request) (old new : Ends) (status : ℕ) (text : List �
 said-run asked old new status text due (Whole whole same) = Wrote status text due (whole, same)
 said-run asked old new status text due (Part k short part rose) = WriteFault status k text due (short, part, rose)
 
+-- what was said after nothing else was written
+pub said-since : (status : ℕ) (text : List ℕ) (written mid now : Option (List ℕ)) (before at after s : ℕ) → mid ≡ written → at ≡ before →
+    HasSaid status text mid now at after s → HasSaid status text written now before after s
+said-since status text written mid now before at after s same stays said =
+    subst (λ from. HasSaid status text from now before after s) same (subst (λ count. HasSaid status text mid now count after s) stays said)
+
 -- what was said is a generated job
 pub said-job : (asked : Request) (old new : Ends) (number : ℕ) (text : List ℕ) {s : ℕ} → asked ≡ AsksJob number → ReadNothing old new →
     text ≡ generated_text number →

@@ -1,11 +1,11 @@
 -- For a command and bytes some status and some text are due.
 use Rattle.std.proofs.Common.{◌≡◌, ◌≢◌, ℕ, ◌⊎◌, inl, inr, List, [], length, Option, Some, None, refl, sym, ◌∙◌, arith}
-use Rattle.std.specs.Option.{option_or}
 use Rattle.std.proofs.lemmas.Bool.{cases_Bool, cases_lt}
 use Rattle.std.proofs.Math.ListN.{get_or-eq_default}
 use Rattle.za_alpha.specs.Words.{IsWord, projection}
 use Rattle.za_alpha.specs.Alphabet.{loc_of}
 use Rattle.za_alpha.proofs.Projections.{projection-outside}
+use Rattle.za_alpha.proofs.RowLemmas.{none_of_or}
 use Rattle.za_dfa.specs.Automata.{IsTraceClosed, is_accepted}
 use Rattle.za_dfa.specs.Tables.{automaton_of}
 use Rattle.za_dfa.proofs.Completing.{completion_complete}
@@ -18,6 +18,7 @@ use Rattle.za_lang.specs.Documents.{fault_of, job_of}
 use Rattle.za_lang.proofs.Sound.{documents_are_jobs}
 use Rattle.za_claim.specs.Audited.{audited_claim, audited_job, job_bytes}
 use Rattle.za_claim.specs.Claims.{ClaimData}
+use Rattle.za_freeze.specs.Thawing.{frozen_job}
 use Rattle.za_report.specs.Audits.{audit_text}
 use Rattle.za_script.specs.declared.answer.Answer.{Answer}
 use Rattle.za_script.specs.declared.answer.Answer.TheVariants.{Accept, Reject, Stuck}
@@ -28,11 +29,13 @@ use Rattle.za_script.proofs.Confluence.{weave_is_maximal}
 use Rattle.za_script.proofs.Answers.{accept_is_of_the_weave, reject_is_of_the_weave, stuck_is_of_the_weave}
 use Rattle.za_report.specs.Texts.{answer_text, check_text, open_text, refused_text}
 use Rattle.zielonka.specs.declared.request.Command.{Command}
-use Rattle.zielonka.specs.declared.request.Command.TheVariants.{Solo, Run, Check, Locals, Journal, Audit}
+use Rattle.zielonka.specs.declared.request.Command.TheVariants.{Solo, Run, Check, Locals, Journal, Audit, Thaw}
 use Rattle.za_report.specs.LocalStates.{locals_text}
 use Rattle.zielonka.specs.Journals.{journal_text}
-use Rattle.zielonka.specs.Output.{IsAnswered, Ran, RanOnThreads, Checked, Told, Recorded, Audited, IsDueFor, IsOutput, Open, Answered, Refused, Read, subject_of, fault_for, given, woven_of, status_of, status_of_verdict}
+use Rattle.zielonka.specs.Output.{IsAnswered, Ran, RanOnThreads, Checked, Told, Recorded, Audited, Thawed, IsDueFor, IsOutput, Open, Answered, Refused, NotOwn}
+use Rattle.zielonka.specs.Output.{Read, subject_of, fault_for, given, woven_of, status_of, status_of_verdict}
 use Rattle.zielonka.specs.Shown.{IsClosed}
+use Rattle.zielonka.proofs.FrozenLemmas.{frozen-job, own-open, own-or-other}
 use Rattle.zielonka.proofs.SomeVerdict.{hope-exists, verdict-exists}
 use Rattle.zielonka.specs.Laws.{SomethingIsDue, JournalEndsAsOne}
 
@@ -90,9 +93,13 @@ module _ (job : JobData) (fine : IsJob job) where
     run_exists : (cache : ℕ) → HasAnswer (Run cache)
     run_exists cache = let a = solo_exists cache in (a.0, a.1, RanOnThreads cache a.0 a.1 a.2)
 
+    thaw_exists : HasAnswer Thaw
+    thaw_exists = let a = solo_exists 0 in (a.0, a.1, Thawed a.0 a.1 a.2)
+
     check_exists : (cache : ℕ) → HasAnswer (Check cache)
     check_exists cache =
-        let d = minimal_dfas_exist (given job) (completion_complete job.lang fine.lang) in (0, check_text job.lang.alphabet d.0.states cache, Checked cache d.0 d.1)
+        let d = minimal_dfas_exist (given job) (completion_complete job.lang fine.lang) in
+        (0, check_text job.lang.alphabet d.0.states cache, Checked cache d.0 d.1)
 
     locals_exist : (cache : ℕ) → HasAnswer (Locals cache)
     locals_exist cache =
@@ -118,10 +125,7 @@ answered_exists (Check cache) bytes fine closed = check_exists (job_of bytes) fi
 answered_exists (Locals cache) bytes fine closed = locals_exist (job_of bytes) fine None closed cache
 answered_exists (Journal cache) bytes fine closed = journal_exists (job_of bytes) fine None closed cache
 answered_exists Audit bytes fine closed = verdict_is_said (audited_job bytes) fine (Some (audited_claim bytes)) closed (audited_claim bytes) refl
-
-none_first : (a b : Option TextFault) → option_or a b ≡ None → a ≡ None
-none_first None b e = refl
-none_first (Some fault) b e = e
+answered_exists Thaw bytes fine closed = thaw_exists (frozen_job bytes) fine None closed
 
 -- what isn't refused says a job
 says_a_job : (command : Command) (bytes : List ℕ) → fault_for command bytes ≡ None → IsJob (subject_of command bytes).job
@@ -130,19 +134,24 @@ says_a_job (Run cache) bytes e = documents_are_jobs bytes e
 says_a_job (Check cache) bytes e = documents_are_jobs bytes e
 says_a_job (Locals cache) bytes e = documents_are_jobs bytes e
 says_a_job (Journal cache) bytes e = documents_are_jobs bytes e
-says_a_job Audit bytes e = documents_are_jobs (job_bytes bytes) (none_first (fault_of (job_bytes bytes)) _ e)
+says_a_job Audit bytes e = documents_are_jobs (job_bytes bytes) (none_of_or (fault_of (job_bytes bytes)) _ e).0
+says_a_job Thaw bytes e = frozen-job bytes e
 
 -- a text is refused or says a job, and the language of a job is closed or has a least break
-by_fault : (command : Command) (bytes : List ℕ) (o : Option TextFault) → fault_for command bytes ≡ o → (status : ℕ) × (text : List ℕ) × IsOutput command bytes status text
+by_fault : (command : Command) (bytes : List ℕ) (o : Option TextFault) → fault_for command bytes ≡ o → (status : ℕ) × (text : List ℕ)
+    × IsOutput command bytes status text
 by_fault command bytes (Some fault) e = (4, refused_text fault, Refused fault e)
 by_fault command bytes None e =
     let job : JobData = (subject_of command bytes).job in
     let fine : IsJob job = says_a_job command bytes e in
     elim (closed_or_broken (given job) (completion_complete job.lang fine.lang)) [
-      | inl closed ↦ let r = answered_exists command bytes fine closed in (r.0, r.1, Read r.0 r.1 e fine (Answered r.0 r.1 closed r.2))
+      | inl closed ↦ elim (own-or-other command bytes e fine closed) [
+        | inl own ↦ let r = answered_exists command bytes fine closed in (r.0, r.1, Read r.0 r.1 e fine own (Answered r.0 r.1 closed r.2))
+        | inr h ↦ (4, refused_text h.0, NotOwn h.0 h.1 h.2)
+      ]
       | inr k ↦
           let text : List ℕ = open_text job.lang.alphabet (left_word k.0) (right_word k.0) in
-          (5, text, Read 5 text e fine (Open k.0 k.1))
+          (5, text, Read 5 text e fine (own-open command bytes fine k.0 k.1) (Open k.0 k.1))
     ]
 
 pub something_is_due : SomethingIsDue
@@ -160,34 +169,39 @@ module _ (cache : ℕ) (bytes : List ℕ) where
       let h = hope-exists job fine closed answer in
       (answer_text job.naming.names job.lang.alphabet job.scripts (woven_of job) answer h.0 cache, Ran cache answer h.0 right h.1)
 
-  due_as_one : {status : ℕ} {text : List ℕ} → fault_of bytes ≡ None → IsJob (job_of bytes) → IsDueFor (Journal cache) (subject_of (Journal cache) bytes) status text →
+  due_as_one : {status : ℕ} {text : List ℕ} → fault_of bytes ≡ None → IsJob (job_of bytes) →
+      IsDueFor (Journal cache) (subject_of (Journal cache) bytes) status text →
       EndsWith (Solo cache) status
   due_as_one right fine (Open k least) =
-      let said = open_text (job_of bytes).lang.alphabet (left_word k) (right_word k) in (said, Read 5 said right fine (Open k least))
+      let said = open_text (job_of bytes).lang.alphabet (left_word k) (right_word k) in (said, Read 5 said right fine tt (Open k least))
   due_as_one right fine (Answered status text closed answered) =
-      let a = answered_as_one fine closed answered in (a.0, Read status a.0 right fine (Answered status a.0 closed a.1))
+      let a = answered_as_one fine closed answered in (a.0, Read status a.0 right fine tt (Answered status a.0 closed a.1))
 
   as_one : {status : ℕ} {text : List ℕ} → IsOutput (Journal cache) bytes status text → EndsWith (Solo cache) status
   as_one (Refused fault wrong) = (refused_text fault, Refused fault wrong)
-  as_one (Read status text right fine due) = due_as_one right fine due
+  as_one (NotOwn fault thaw unlike) = absurd (let both : Journal cache ≡ Thaw = thaw in cc)
+  as_one (Read status text right fine own due) = due_as_one right fine due
 
   answered_recorded : {status : ℕ} {text : List ℕ} → IsJob (job_of bytes) → IsAnswered (job_of bytes) None (Solo cache) status text →
       (said : List ℕ) × IsAnswered (job_of bytes) None (Journal cache) status said
   answered_recorded fine (Ran same answer hope right goes) =
       let job = job_of bytes in
-      let fits = weave_is_maximal (loc_of job.lang.alphabet) (length job.lang.alphabet.letters) job.lang.alphabet.processes (script_of job.scripts) fine.lang.distributed.located in
+      let fits = weave_is_maximal (loc_of job.lang.alphabet) (length job.lang.alphabet.letters) job.lang.alphabet.processes
+      (script_of job.scripts) fine.lang.distributed.located in
       (journal_text job.lang.alphabet (woven_of job) answer, Recorded cache answer (woven_of job) right fits)
 
-  due_recorded : {status : ℕ} {text : List ℕ} → fault_of bytes ≡ None → IsJob (job_of bytes) → IsDueFor (Solo cache) (subject_of (Solo cache) bytes) status text →
+  due_recorded : {status : ℕ} {text : List ℕ} → fault_of bytes ≡ None → IsJob (job_of bytes) →
+      IsDueFor (Solo cache) (subject_of (Solo cache) bytes) status text →
       EndsWith (Journal cache) status
   due_recorded right fine (Open k least) =
-      let said = open_text (job_of bytes).lang.alphabet (left_word k) (right_word k) in (said, Read 5 said right fine (Open k least))
+      let said = open_text (job_of bytes).lang.alphabet (left_word k) (right_word k) in (said, Read 5 said right fine tt (Open k least))
   due_recorded right fine (Answered status text closed answered) =
-      let a = answered_recorded fine answered in (a.0, Read status a.0 right fine (Answered status a.0 closed a.1))
+      let a = answered_recorded fine answered in (a.0, Read status a.0 right fine tt (Answered status a.0 closed a.1))
 
   recorded : {status : ℕ} {text : List ℕ} → IsOutput (Solo cache) bytes status text → EndsWith (Journal cache) status
   recorded (Refused fault wrong) = (refused_text fault, Refused fault wrong)
-  recorded (Read status text right fine due) = due_recorded right fine due
+  recorded (NotOwn fault thaw unlike) = absurd (let both : Solo cache ≡ Thaw = thaw in cc)
+  recorded (Read status text right fine own due) = due_recorded right fine due
 
 pub journal_ends_as_one : JournalEndsAsOne
 journal_ends_as_one cache bytes status = (λ h. as_one cache bytes h.1, λ h. recorded cache bytes h.1)

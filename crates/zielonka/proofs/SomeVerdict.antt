@@ -14,7 +14,7 @@ use Rattle.za_script.specs.ScriptLists.{script_of}
 use Rattle.za_claim.specs.Claims.{ClaimData, claimed_label, event_letters}
 use Rattle.za_audit.specs.declared.verdict.Audit.{Audit}
 use Rattle.za_audit.specs.declared.verdict.Audit.TheVariants.{Yes, BadLetter, BadLabel, NotMaximal, WrongAnswer}
-use Rattle.za_audit.specs.Verdicts.{can_fire, letter_at, letters_before, defined_label, IsRight, AreRight, AreWhole, IsAnswerOf, IsVerdict}
+use Rattle.za_audit.specs.Verdicts.{can_fire, event_letter, letters_before, defined_label, IsRight, AreRight, AreWhole, IsAnswerOf, IsVerdict}
 use Rattle.zielonka.specs.Output.{is_yes, given}
 use Rattle.zielonka.specs.Shown.{IsClosed}
 
@@ -48,7 +48,7 @@ module _ (job : JobData) (fine : IsJob job) (closed : IsClosed job) (claim : Cla
   right-or-not (suc n) h =
       elim (right-or-not n (omega arith)) [
         | inr found ↦ inr found
-        | inl right ↦ elim (cases_Bool (can_fire job (letters_before claim.events n) (letter_at claim.events n))) [
+        | inl right ↦ elim (cases_Bool (can_fire job (letters_before claim.events n) (event_letter claim.events n))) [
           | inr f ↦ inr (BadLetter n, record { within = omega arith; before = right; letter = f })
           | inl t ↦ elim (cases_eq (claimed_label claim.events n) (defined_label job claim.events n)) [
             | inr other ↦ inr (BadLabel n, record { within = omega arith; before = right; letter = t; label = other })
@@ -70,7 +70,11 @@ module _ (job : JobData) (fine : IsJob job) (closed : IsClosed job) (claim : Cla
         | inl l ↦ inr (NotMaximal (record { 0 = a }), record { right = right; fires = least-true fires m l; below = λ b k. least-below fires m b k })
         | inr none ↦ inl (record {
           right = right;
-          none = λ b. elim (cases_lt b a) [ inl k ↦ least-below fires m b k | inr ge ↦ let past : nat_lt b m ≡ false = le-ltb b m (omega arith) in rw past refl ];
+          none = λ b. elim (cases_lt b a) [
+            | inl k ↦ least-below fires m b k
+            | inr ge ↦ let past : nat_lt b m ≡ false = le-ltb b m (omega arith) in
+                rw past refl
+          ];
         })
       ]
 

@@ -6,20 +6,24 @@ use Rattle.za_alpha.specs.Alphabet.{loc_of}
 use Rattle.za_base.specs.Fault.{Rises}
 use Rattle.za_base.specs.Ends.{Ends}
 use Rattle.za_closure.specs.Breaks.{Break, IsBreak}
-use Rattle.za_dfa.specs.Tables.{automaton_of}
+use Rattle.za_dfa.specs.Tables.{CompleteDfa, automaton_of}
 use Rattle.za_text.specs.declared.kind.TextFault.{TextFault}
-use Rattle.za_lang.specs.Jobs.{IsJob}
+use Rattle.za_lang.specs.Documents.{fault_of, job_of}
+use Rattle.za_lang.specs.Jobs.{JobData, IsJob}
+use Rattle.za_freeze.specs.Frozen.{frozen_text, IsAutomatonOf}
+use Rattle.za_freeze.specs.Thawing.{IsNotOwn}
 use Rattle.za_gen.specs.Generated.{generated_text}
 use Rattle.zielonka.specs.declared.request.Command.{Command}
-use Rattle.zielonka.specs.declared.request.Command.TheVariants.{Solo, Run, Journal}
+use Rattle.zielonka.specs.declared.request.Command.TheVariants.{Solo, Run, Journal, Thaw}
 use Rattle.zielonka.specs.declared.request.Request.{Request}
 use Rattle.zielonka.specs.declared.request.Request.TheVariants.{Usage as AsksUsage}
-use Rattle.zielonka.specs.declared.request.Request.TheVariants.{Answer as Asks, Generate as AsksJob}
+use Rattle.zielonka.specs.declared.request.Request.TheVariants.{Generate as AsksJob}
 use Rattle.zielonka.specs.Limits.{most_bytes}
 use Rattle.zielonka.specs.Output.{IsOutput, fault_for, subject_of, given, usage_text, too_long_text}
 use Rattle.zielonka.specs.Run.{NoReadFailed, NoWriteFailed}
 use Rattle.zielonka.specs.Run.{ReadNothing, ReadAll, ReadNotTooMany, ReadTooMany, WroteNothing, WroteAll, WrotePart}
-use Rattle.zielonka.specs.Run.{IsDue, HasRun}
+use Rattle.zielonka.specs.Run.{reads_bytes, IsOutputOf, IsDue, HasRun}
+use Rattle.zielonka.specs.Shown.{AreClosedJob}
 
 -- ---- runs
 
@@ -52,15 +56,11 @@ JobCompletes =
     asked ≡ AsksJob number → ¬ Rises old.write_faults new.write_faults →
     (status ≡ 8) ⊎ ((status ≡ 0) × WroteJob old new number)
 
--- the words ask for some command that reads the source
-abbrev pub AsksForSome : Request → Type 0
-AsksForSome asked = (command : Command) × (asked ≡ Asks command)
-
 -- status 6 comes only where the source's count of faults rose before too many bytes were taken; nothing was written
 abbrev pub ReadFaultIsOfTheSource : Type 0
 ReadFaultIsOfTheSource =
     (asked : Request) (old new : Ends) → HasRun asked old new 6 →
-    AsksForSome asked × ReadNotTooMany old new × Rises old.read_faults new.read_faults × WroteNothing old new
+    IsTrue (reads_bytes asked) × ReadNotTooMany old new × Rises old.read_faults new.read_faults × WroteNothing old new
 
 -- status 7 comes only where the sink's count of faults rose, and a proper prefix of a text that is due was written
 abbrev pub WriteFaultIsOfTheSink : Type 0
@@ -78,7 +78,7 @@ CountsStay =
 abbrev pub TooLongIsOfTheBytes : Type 0
 TooLongIsOfTheBytes =
     (asked : Request) (old new : Ends) → HasRun asked old new 9 →
-    AsksForSome asked × ReadTooMany old new × WroteAll old new too_long_text
+    IsTrue (reads_bytes asked) × ReadTooMany old new × WroteAll old new too_long_text
 
 -- where the source tells its bytes and too many were taken, the status is 9, 7 or 8
 abbrev pub TooManyDecide : Type 0
@@ -86,12 +86,12 @@ TooManyDecide =
     (asked : Request) (old new : Ends) (status : ℕ) (bytes : List ℕ) → HasRun asked old new status →
     old.left ≡ Some bytes → ReadTooMany old new → (status ≡ 9) ⊎ ((status ≡ 7) ⊎ (status ≡ 8))
 
--- where it has too many, and neither count of faults rose, a command that reads them ends with want of memory or
--- refuses them
+-- where it has too many, and neither count of faults rose, what is asked of them ends with want of memory or refuses
+-- them
 abbrev pub TooManyComplete : Type 0
 TooManyComplete =
     (asked : Request) (old new : Ends) (status : ℕ) (bytes : List ℕ) → HasRun asked old new status →
-    AsksForSome asked → old.left ≡ Some bytes → most_bytes < length bytes →
+    IsTrue (reads_bytes asked) → old.left ≡ Some bytes → most_bytes < length bytes →
     ¬ Rises old.read_faults new.read_faults → ¬ Rises old.write_faults new.write_faults →
     (status ≡ 8) ⊎ ((status ≡ 9) × WroteAll old new too_long_text)
 
@@ -106,8 +106,7 @@ is_of_bytes status = list_any (λ s. s == status) (0 ∷ 1 ∷ 3 ∷ 4 ∷ 5 ∷
 -- all bytes were read, and the text that is due for them was written whole
 abbrev pub HasAnsweredAll : Request → Ends → Ends → ℕ → Type 0
 HasAnsweredAll asked old new status =
-    (command : Command) × (bytes text : List ℕ) × (asked ≡ Asks command) × ReadAll old new bytes
-    × IsOutput command bytes status text × WroteAll old new text
+    (bytes text : List ℕ) × ReadAll old new bytes × IsOutputOf asked bytes status text × WroteAll old new text
 
 -- such a status comes only so, or it is 0, the words ask for a generated job, and it was written whole
 abbrev pub AnswerIsOfAllBytes : Type 0
@@ -122,14 +121,14 @@ StatusesAreKnown =
     (asked : Request) (old new : Ends) (status : ℕ) → HasRun asked old new status →
     IsTrue (is_of_bytes status || list_any (λ s. s == status) (2 ∷ 6 ∷ 7 ∷ 8 ∷ 9 ∷ []))
 
--- where the source tells its bytes and has not too many, and neither count of faults rose, a command that reads them
--- ends with want of memory or says what is due for all bytes
+-- where the source tells its bytes and has not too many, and neither count of faults rose, what is asked of them ends
+-- with want of memory or says what is due for all bytes
 abbrev pub RunCompletes : Type 0
 RunCompletes =
-    (asked : Request) (old new : Ends) (status : ℕ) (command : Command) (bytes : List ℕ) →
-    HasRun asked old new status → asked ≡ Asks command → old.left ≡ Some bytes → length bytes ≤ most_bytes →
+    (asked : Request) (old new : Ends) (status : ℕ) (bytes : List ℕ) → HasRun asked old new status →
+    IsTrue (reads_bytes asked) → old.left ≡ Some bytes → length bytes ≤ most_bytes →
     ¬ Rises old.read_faults new.read_faults → ¬ Rises old.write_faults new.write_faults →
-    (status ≡ 8) ⊎ ((text : List ℕ) × IsOutput command bytes status text × WroteAll old new text)
+    (status ≡ 8) ⊎ ((text : List ℕ) × IsOutputOf asked bytes status text × WroteAll old new text)
 
 -- ---- what is due
 
@@ -162,11 +161,33 @@ JournalEndsAsOne =
     (((text : List ℕ) × IsOutput (Journal cache) bytes status text)
     ↔ ((text : List ℕ) × IsOutput (Solo cache) bytes status text))
 
--- the status that is due is 4 exactly where the bytes aren't what the command reads: some line of theirs is wrong
+-- for `thaw` and the frozen text of a document whose language is trace-closed, after any number of events, the status
+-- and the text that are due are those that are due for `solo` and the document, with no cache
+abbrev pub ThawGoesOn : Type 0
+ThawGoesOn =
+    (bytes : List ℕ) (d : CompleteDfa) (k status : ℕ) (text : List ℕ) → fault_of bytes ≡ None →
+    IsAutomatonOf (job_of bytes) d →
+    (IsOutput Thaw (frozen_text (job_of bytes) d k) status text ↔ IsOutput (Solo 0) bytes status text)
+
+-- the bytes are the frozen text of some job whose language is trace-closed, after some number of events
+abbrev pub AreFrozen : List ℕ → Type 0
+AreFrozen bytes =
+    (job : JobData) × (d : CompleteDfa) × (k : ℕ) × IsJob job × IsAutomatonOf job d × (bytes ≡ frozen_text job d k)
+
+-- these and no other bytes are what `thaw` reads, with a trace-closed language
+abbrev pub FrozenTextsAreRead : Type 0
+FrozenTextsAreRead = (bytes : List ℕ) → (AreClosedJob Thaw bytes ↔ AreFrozen bytes)
+
+-- why bytes are refused: some line of theirs is wrong, or to `thaw` it isn't that of the frozen text
+abbrev pub IsFaultOf : Command → List ℕ → TextFault → Type 0
+IsFaultOf command bytes fault =
+    (fault_for command bytes ≡ Some fault) ⊎ ((command ≡ Thaw) × IsNotOwn bytes fault)
+
+-- the status that is due is 4 exactly where the bytes aren't what the command reads: there is some such fault
 abbrev pub RefusedExactly : Type 0
 RefusedExactly =
     (command : Command) (bytes : List ℕ) (status : ℕ) (text : List ℕ) → IsOutput command bytes status text →
-    ((status ≡ 4) ↔ ((fault : TextFault) × (fault_for command bytes ≡ Some fault)))
+    ((status ≡ 4) ↔ ((fault : TextFault) × IsFaultOf command bytes fault))
 
 -- the bytes are what the command reads, and the language of their job has a break
 abbrev pub HasBrokenLanguage : Command → List ℕ → Type 0

@@ -21,41 +21,48 @@ use Rattle.za_script.specs.Scripts.{FitsMaximally}
 use Rattle.za_script.specs.ScriptLists.{script_of}
 use Rattle.za_min.specs.declared.live.Hope.{Hope}
 use Rattle.za_hope.specs.Jobs.{HasHope}
-use Rattle.za_script.specs.Woven.{weave_of}
 use Rattle.za_report.specs.Audits.{audit_text}
 use Rattle.za_report.specs.Texts.{answer_text, check_text, open_text, refused_text}
 use Rattle.za_report.specs.LocalStates.{locals_text}
+pub use Rattle.za_freeze.specs.Frozen.{woven_of}
+use Rattle.za_freeze.specs.Frozen.{IsAutomatonOf}
+use Rattle.za_freeze.specs.Thawing.{reading_fault, frozen_job, not_own_fault, IsNotOwn}
 use Rattle.zielonka.specs.Journals.{journal_text}
 use Rattle.zielonka.specs.declared.request.Command.{Command}
-use Rattle.zielonka.specs.declared.request.Command.TheVariants.{Solo, Run, Check, Locals, Journal, Audit}
+use Rattle.zielonka.specs.declared.request.Command.TheVariants.{Solo, Run, Check, Locals, Journal, Audit, Thaw}
 
 abbrev pub usage_text : List ℕ
-usage_text = codes "usage: zla solo|run|check|locals|journal [--cache C], zla audit, zla gen N\n"
+usage_text = codes
+    "usage: zla solo|run|check|locals|journal [--cache C], zla audit|build|news|thaw, zla gen N, zla freeze K\n"
 
 abbrev pub too_long_text : List ℕ
 too_long_text = codes "refused: more than 1048576 bytes\n"
 
--- what bytes say to a command: a job, and to `audit` a claim about it too
+-- what bytes say to a command: a job, and to `audit` a claim about it too. To `thaw` a frozen text says the job whose
+-- processes are frozen
 pub record SubjectData : Type 0 where
   pub job : JobData
   pub claim : Option ClaimData
 
 abbrev pub subject_of : Command → List ℕ → SubjectData
 subject_of Audit bytes = record { job = audited_job bytes; claim = Some (audited_claim bytes) }
+subject_of Thaw bytes = record { job = frozen_job bytes; claim = None }
 subject_of _ bytes = record { job = job_of bytes; claim = None }
 
 -- the refusal of bytes that don't say so much
 abbrev pub fault_for : Command → List ℕ → Option TextFault
 fault_for Audit bytes = audited_fault bytes
+fault_for Thaw bytes = reading_fault bytes
 fault_for _ bytes = fault_of bytes
+
+-- and to `thaw` no line of the text is another than that of the frozen text of its job and its number
+abbrev pub IsOwn : Command → List ℕ → Type 0
+IsOwn Thaw bytes = (d : CompleteDfa) → IsAutomatonOf (frozen_job bytes) d → not_own_fault d bytes ≡ None
+IsOwn _ bytes = Unit {0}
 
 -- the automaton as given: the completed table of the job's language
 abbrev pub given : JobData → CompleteDfa
 given job = completion job.lang
-
--- the word that the job's scripts weave
-abbrev pub woven_of : JobData → List ℕ
-woven_of job = weave_of job.lang.alphabet job.scripts
 
 -- the status of an answer
 abbrev pub status_of : Answer → ℕ
@@ -101,6 +108,9 @@ pub data IsAnswered (job : JobData) (claim : Option ClaimData) : Command → ℕ
   -- the verdict on the claim
   Audited : (about : ClaimData) (audit : verdict.Audit) → claim ≡ Some about → IsVerdict job about audit →
       IsAnswered job claim Audit (status_of_verdict audit) (audit_text job.lang.alphabet audit)
+  -- by what is left of the job, on threads: what is answered to the whole job on one thread, with no cache
+  Thawed : (status : ℕ) (text : List ℕ) → IsAnswered job claim (Solo 0) status text →
+      IsAnswered job claim Thaw status text
 
 -- the status and the text that are due for a command and what bytes say to it
 pub data IsDueFor (command : Command) (subject : SubjectData) : ℕ → List ℕ → Type 0 where
@@ -117,6 +127,9 @@ pub data IsOutput (command : Command) (bytes : List ℕ) : ℕ → List ℕ → 
   -- they aren't what the command reads: the first wrong line, and its first kind
   Refused : (fault : TextFault) → fault_for command bytes ≡ Some fault →
       IsOutput command bytes 4 (refused_text fault)
+  -- to `thaw` they say a job whose language is trace-closed, but aren't a frozen text of it: the first other line
+  NotOwn : (fault : TextFault) → command ≡ Thaw → IsNotOwn bytes fault → IsOutput command bytes 4 (refused_text fault)
   -- they are
   Read : (status : ℕ) (text : List ℕ) → fault_for command bytes ≡ None → IsJob (subject_of command bytes).job →
-      IsDueFor command (subject_of command bytes) status text → IsOutput command bytes status text
+      IsOwn command bytes → IsDueFor command (subject_of command bytes) status text →
+      IsOutput command bytes status text

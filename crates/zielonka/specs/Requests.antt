@@ -2,13 +2,15 @@
 use Rattle.std.specs.Prelude.{ℕ, List, Bool, true, false, not, if◌then◌else◌}
 use Rattle.std.specs.Option.{option_map_or}
 use Rattle.za_command.specs.declared.plan.Plan.{Plan}
-use Rattle.za_command.specs.declared.plan.Plan.TheVariants.{Solo, Run, Check, Locals, Journal, Audit, Gen}
+use Rattle.za_command.specs.declared.plan.Plan.TheVariants.{Solo, Run, Check, Locals, Journal, Audit, Build, News}
+use Rattle.za_command.specs.declared.plan.Plan.TheVariants.{Thaw, Gen, Freeze}
 use Rattle.za_command.specs.Plans.{plan_of}
+use Rattle.za_query.specs.declared.query.Query.TheVariants as query
 use Rattle.zielonka.specs.declared.request.Call.{Call}
 use Rattle.zielonka.specs.declared.request.Call.TheVariants.{Plain, Threaded, Top}
 use Rattle.zielonka.specs.declared.request.Command.TheVariants as command
 use Rattle.zielonka.specs.declared.request.Request.{Request}
-use Rattle.zielonka.specs.declared.request.Request.TheVariants.{Usage, Answer, Generate}
+use Rattle.zielonka.specs.declared.request.Request.TheVariants.{Usage, Answer, Ask, Generate}
 
 -- whether a plan is answered on threads
 abbrev pub is_for_threads : Plan → Bool
@@ -18,7 +20,11 @@ is_for_threads (Check cache) = false
 is_for_threads (Locals cache) = false
 is_for_threads (Journal cache) = true
 is_for_threads Audit = false
+is_for_threads Build = false
+is_for_threads News = false
+is_for_threads Thaw = true
 is_for_threads (Gen number) = false
+is_for_threads (Freeze cut) = false
 
 -- whether the called function has the form of a plan
 abbrev pub has_form : Call → Plan → Bool
@@ -34,7 +40,11 @@ request_by (Check cache) = Answer (command.Check cache)
 request_by (Locals cache) = Answer (command.Locals cache)
 request_by (Journal cache) = Answer (command.Journal cache)
 request_by Audit = Answer command.Audit
+request_by Build = Ask query.Build
+request_by News = Ask query.News
+request_by Thaw = Answer command.Thaw
 request_by (Gen number) = Generate number
+request_by (Freeze cut) = Ask (query.Freeze cut)
 
 -- a plan whose form the called function doesn't have asks for the usage line
 abbrev pub request_of : Call → Plan → Request

@@ -1,16 +1,30 @@
 -- What a run of the program does, from its source to its sink.
-use Rattle.std.specs.Prelude.{◌≡◌, ℕ, ◌<◌, ◌≤◌, ◌+◌, List, length, take, Option}
+use Rattle.std.specs.Prelude.{◌≡◌, ℕ, ◌<◌, ◌≤◌, ◌+◌, Bool, true, false, IsTrue, List, length, take, Option}
 use Rattle.std.specs.Io.KnownBytes.{Consumes, Appends, IsAtEnd}
 use Rattle.za_base.specs.Read.{Took}
 use Rattle.za_base.specs.Fault.{Rises}
 use Rattle.za_base.specs.Ends.{Ends}
 use Rattle.za_gen.specs.Generated.{generated_text}
+use Rattle.za_query.specs.Replies.{IsReply}
 use Rattle.zielonka.specs.Limits.{most_bytes}
-use Rattle.zielonka.specs.declared.request.Command.{Command}
 use Rattle.zielonka.specs.declared.request.Request.{Request}
 use Rattle.zielonka.specs.declared.request.Request.TheVariants.{Usage as AsksUsage}
-use Rattle.zielonka.specs.declared.request.Request.TheVariants.{Answer as Asks, Generate as AsksJob}
+use Rattle.zielonka.specs.declared.request.Request.TheVariants.{Answer as Asks, Ask as AsksReply, Generate as AsksJob}
 use Rattle.zielonka.specs.Output.{IsOutput, usage_text, too_long_text}
+
+-- whether what is asked is asked of the bytes of the source
+abbrev pub reads_bytes : Request → Bool
+reads_bytes AsksUsage = false
+reads_bytes (Asks command) = true
+reads_bytes (AsksReply query) = true
+reads_bytes (AsksJob number) = false
+
+-- the status and the text that are due for what is asked of bytes, and for these bytes
+abbrev pub IsOutputOf : Request → List ℕ → ℕ → List ℕ → Type 0
+IsOutputOf AsksUsage bytes status text = ⊥
+IsOutputOf (Asks command) bytes status text = IsOutput command bytes status text
+IsOutputOf (AsksReply query) bytes status text = IsReply query bytes status text
+IsOutputOf (AsksJob number) bytes status text = ⊥
 
 -- no read failed, and no write: the count of faults is what it was
 abbrev pub NoReadFailed : Ends → Ends → Type 0
@@ -59,11 +73,11 @@ pub data HasSaid (status : ℕ) (text : List ℕ) (written now : Option (List �
 -- the status and the text that are due for what is asked
 pub data IsDue (asked : Request) (old new : Ends) : ℕ → List ℕ → Type 0 where
   Usage : asked ≡ AsksUsage → ReadNothing old new → IsDue asked old new 2 usage_text
-  TooLong : (command : Command) → asked ≡ Asks command → ReadTooMany old new → IsDue asked old new 9 too_long_text
+  TooLong : IsTrue (reads_bytes asked) → ReadTooMany old new → IsDue asked old new 9 too_long_text
   Generated : (number : ℕ) → asked ≡ AsksJob number → ReadNothing old new →
       IsDue asked old new 0 (generated_text number)
-  Said : (command : Command) (bytes : List ℕ) (status : ℕ) (text : List ℕ) → asked ≡ Asks command →
-      ReadAll old new bytes → IsOutput command bytes status text → IsDue asked old new status text
+  Said : (bytes : List ℕ) (status : ℕ) (text : List ℕ) → ReadAll old new bytes →
+      IsOutputOf asked bytes status text → IsDue asked old new status text
 
 -- what a run did of which this was asked, by the status that it ended with
 pub data HasRun (asked : Request) (old new : Ends) : ℕ → Type 0 where
@@ -74,7 +88,7 @@ pub data HasRun (asked : Request) (old new : Ends) : ℕ → Type 0 where
   WriteFault : (status k : ℕ) (text : List ℕ) → IsDue asked old new status text → WrotePart old new text k →
       HasRun asked old new 7
   -- the source's count of faults rose before too many bytes were taken
-  ReadFault : (command : Command) → asked ≡ Asks command → ReadNotTooMany old new →
-      Rises old.read_faults new.read_faults → WroteNothing old new → HasRun asked old new 6
+  ReadFault : IsTrue (reads_bytes asked) → ReadNotTooMany old new → Rises old.read_faults new.read_faults →
+      WroteNothing old new → HasRun asked old new 6
   -- want of memory
   NoMemory : ReadNotTooMany old new → NoReadFailed old new → WroteNothing old new → HasRun asked old new 8

@@ -16,13 +16,14 @@ use Rattle.za_report.specs.Texts.{answer_text}
 use Rattle.za_script.specs.Answer.{IsAnswer}
 use Rattle.za_script.specs.ScriptLists.{script_of}
 use Rattle.za_script.specs.Woven.{weave_of}
-use Rattle.za_table.specs.Ends.{EndedState, IsEnded, answer_in}
+use Rattle.za_table.specs.Ends.{EndedState, IsEnded, HasAnswer, answer_in}
+use Rattle.za_freeze.specs.Frozen.{IsThawed}
 use Rattle.zielonka.specs.Limits.{most_bytes}
 use Rattle.zielonka.specs.Journals.{journal_text}
-use Rattle.zielonka.specs.Output.{IsOutput, fault_for, subject_of, given, woven_of}
+use Rattle.zielonka.specs.Output.{IsOutput, IsOwn, fault_for, subject_of, given, woven_of}
 use Rattle.zielonka.specs.Run.{HasSaid, ReadAll}
 use Rattle.zielonka.specs.declared.request.Command.{Command}
-use Rattle.zielonka.specs.declared.request.Command.TheVariants.{Solo, Run, Check, Locals, Journal, Audit}
+use Rattle.zielonka.specs.declared.request.Command.TheVariants.{Solo, Run, Check, Locals, Journal, Audit, Thaw}
 use Rattle.zielonka.specs.declared.request.Request.{Request}
 use Rattle.zielonka.specs.declared.request.Request.TheVariants.{Answer as Asks}
 use Rattle.zielonka.specs.declared.status.Shown.{Shown}
@@ -36,6 +37,7 @@ runs_scripts (Check cache) = false
 runs_scripts (Locals cache) = true
 runs_scripts (Journal cache) = true
 runs_scripts Audit = false
+runs_scripts Thaw = true
 
 -- whether it runs them on threads
 abbrev pub runs_on_threads : Command → Bool
@@ -45,16 +47,18 @@ runs_on_threads (Check cache) = false
 runs_on_threads (Locals cache) = false
 runs_on_threads (Journal cache) = true
 runs_on_threads Audit = false
+runs_on_threads Thaw = true
 
 -- the language of the job is trace-closed
 abbrev pub IsClosed : JobData → Type 0
 IsClosed job = IsTraceClosed (loc_of job.lang.alphabet) (automaton_of (given job))
 
--- the bytes are what the command reads, and the language of their job is trace-closed
+-- the bytes are what the command reads, for `thaw` a frozen text, and the language of their job is trace-closed
 pub record AreClosedJob (command : Command) (bytes : List ℕ) : Type 0 where
   pub read : fault_for command bytes ≡ None
   pub job : IsJob (subject_of command bytes).job
   pub closed : IsClosed (subject_of command bytes).job
+  pub own : IsOwn command bytes
 
 -- the run is one of the job: on the minimal automaton of its language and on its scripts; it is over, and its answer is
 -- that of the automaton as given to the scripts, over all words that weave them
@@ -88,7 +92,7 @@ abbrev pub journal_text_of : EndedState → List ℕ
 journal_text_of run = journal_text run.given.dfa.alphabet run.state.journal (answer_in run)
 
 -- the text is what the command makes of the run: of its answer and hope, with the names of the processes, of its local
--- states, which are those after its word, or its journal
+-- states, which are those after its word, or its journal. `thaw` runs what is left of a job, and none of the whole
 abbrev pub IsMadeOf : Command → List (List ℕ) → EndedState → List ℕ → Type 0
 IsMadeOf (Solo cache) names run text = TellsAnswer names run cache text
 IsMadeOf (Run cache) names run text = TellsAnswer names run cache text
@@ -96,6 +100,7 @@ IsMadeOf (Check cache) names run text = ⊥
 IsMadeOf (Locals cache) names run text = text ≡ locals_text run.given.dfa run.state.journal
 IsMadeOf (Journal cache) names run text = text ≡ journal_text_of run
 IsMadeOf Audit names run text = ⊥
+IsMadeOf Thaw names run text = ⊥
 
 -- in which order the letters of a job were fired: on one thread in that of the woven word, on threads in some order
 -- that is equivalent to it
@@ -106,12 +111,35 @@ IsJournalOf (Check cache) job journal = ⊥
 IsJournalOf (Locals cache) job journal = journal ≡ woven_of job
 IsJournalOf (Journal cache) job journal = AreEquivalent (loc_of job.lang.alphabet) journal (woven_of job)
 IsJournalOf Audit job journal = ⊥
+IsJournalOf Thaw job journal = ⊥
 
 -- the text of the command is made of the run, which is one of the job
 pub record IsMadeBy (command : Command) (job : JobData) (text : List ℕ) (run : EndedState) : Type 0 where
   pub of : IsRunOf job run
   pub journal : IsJournalOf command job run.state.journal
   pub made : IsMadeOf command job.naming.names run text
+
+-- the run is one of what is left of the job of a frozen text: on the minimal automaton of its language, started at the
+-- state after the events that had happened, and on what is left of its scripts; it is over, and its answer is that of
+-- this automaton to these scripts
+pub record IsRestOf (bytes : List ℕ) (job : JobData) (run : EndedState) : Type 0 where
+  pub thawed : IsThawed bytes job run.given.dfa run.given.scripts
+  pub over : IsEnded run
+  pub answer : HasAnswer run
+
+-- the text tells, of the whole job, the answer of the run and the hope that goes with it
+abbrev pub TellsWhole : JobData → EndedState → List ℕ → Type 0
+TellsWhole job run text =
+    (hope : Option Hope) × IsHopeIn run hope
+    × (text ≡ answer_text job.naming.names job.lang.alphabet job.scripts (woven_of job) (answer_in run) hope 0)
+
+-- the text of `thaw` is made of the run, which is one of what is left of the job; the letters that were left were fired
+-- in some order that is equivalent to their weave
+pub record IsMadeByRest (bytes : List ℕ) (job : JobData) (text : List ℕ) (run : EndedState) : Type 0 where
+  pub of : IsRestOf bytes job run
+  pub journal : AreEquivalent (loc_of job.lang.alphabet) run.state.journal
+      (weave_of job.lang.alphabet run.given.scripts)
+  pub made : TellsWhole job run text
 
 -- as what a finished run is shown: as one on one thread, or as that of a hall
 abbrev pub shown_as : Command → EndedState → Shown
@@ -121,6 +149,7 @@ shown_as (Check cache) run = Nothing
 shown_as (Locals cache) run = ShowsSolo run
 shown_as (Journal cache) run = ShowsHall run
 shown_as Audit run = Nothing
+shown_as Thaw run = ShowsHall run
 
 -- whether a status may come of a finished run
 abbrev pub is_of_a_run : ℕ → Bool
@@ -135,6 +164,12 @@ pub data IsShown (asked : Request) (old new : Ends) (status : ℕ) : Shown → T
       IsMadeBy command (subject_of command bytes).job text run → IsOutput command bytes due text →
       HasSaid due text old.written new.written old.write_faults new.write_faults status →
       IsShown asked old new status (shown_as command run)
+  -- the same of `thaw`, all bytes are a frozen text, and the run is one of what is left of its job
+  FinishedRest : (bytes text : List ℕ) (due : ℕ) (run : EndedState) → asked ≡ Asks Thaw → ReadAll old new bytes →
+      AreClosedJob Thaw bytes → IsMadeByRest bytes (subject_of Thaw bytes).job text run →
+      IsOutput Thaw bytes due text →
+      HasSaid due text old.written new.written old.write_faults new.write_faults status →
+      IsShown asked old new status (shown_as Thaw run)
   -- where a command that runs scripts is asked for, and the source tells its bytes, which are a job whose language is
   -- trace-closed, not too long, the status is another one
   Unshown : ((command : Command) (bytes : List ℕ) → asked ≡ Asks command → IsTrue (runs_scripts command) →

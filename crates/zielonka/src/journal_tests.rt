@@ -12,7 +12,8 @@ use std::thread::Threads;
 use za_gen::job_of;
 
 /// Each `b` follows an `a`, and each `a` a `b`: `a b` is accepted, and `b a` is not.
-const OPEN: &str = "zla 1\nprocesses 2\nletter a 0\nletter b 1\nstates 2\nstart 0\naccept 0\n\
+pub(crate) const OPEN: &str =
+    "zla 1\nprocesses 2\nletter a 0\nletter b 1\nstates 2\nstart 0\naccept 0\n\
     row 0 a 1\nrow 1 b 0\nend\n";
 
 /// The job of two in version 2.

@@ -1,26 +1,25 @@
 //! What bytes come to before a command is answered: a job whose language is trace-closed, or a refusal.
 
-ghost use Rattle.std.specs.Prelude.{◌≡◌, ◌<◌, IfOk, MatchResult, None, length};
+ghost use Rattle.std.specs.Prelude.{◌≡◌, ◌≢◌, ◌<◌, IfOk, MatchResult, None, length};
+ghost use Rattle.za_closure.specs.Breaks.{AreBreakWords};
+ghost use Rattle.za_dfa.specs.Partials.{completion};
 ghost use Rattle.za_lang.specs.Answers.{data_of, IsRefusedWith};
 ghost use Rattle.za_lang.specs.Jobs.{IsJob};
+ghost use Rattle.za_freeze.specs.Thawing.{frozen_job, reading_fault};
+ghost use Rattle.za_report.specs.Texts.{open_text};
 ghost use Rattle.zielonka.specs.Output.{fault_for, subject_of};
 ghost use Rattle.zielonka.specs.Private.Saying.{AreJudged, IsJudged, subject_in};
 
 use crate::request::Command;
 use std::alloc::Global;
-use za_alpha::OutOfMemory;
+use za_alpha::{OutOfMemory, Word};
 use za_claim::{Audited, Claim, read_audited};
-use za_closure::{Open, close};
 use za_dfa::Closed;
+use za_freeze::{ThawFault, Thawed, thaw};
 use za_lang::{Job, JobFault, read_job};
+use za_query::Said;
 use za_report::{open_text, refused_text};
-
-/// A status, and what is written.
-#[derive(Drop)]
-pub(crate) struct Said {
-    pub(crate) status: u8,
-    pub(crate) text: Vec<u8>,
-}
+use za_text::{FirstWord, divide};
 
 /// What bytes say to a command: a job, and to `audit` a claim about it too.
 #[derive(Drop)]
@@ -45,11 +44,14 @@ pub(crate) enum Judged {
     Refused(Said),
     /// A job that the command is to answer.
     Ready(ClosedJob),
+    /// What is left of a job whose processes were frozen, which `thaw` is to answer.
+    Rest(Thawed),
 }
 
-/// What bytes say to a command.
+/// What bytes say to a command that reads the whole of a job.
 fn read(alloc: Global, command: Command, bytes: &[u8]) -> Result<Subject, JobFault>
-    requires { length bytes.now < 4294967295 }
+    requires short { length bytes.now < 4294967295 }
+    requires whole { command ≢ Command.Thaw }
     ensures answer { MatchResult result
         (λ subject. (fault_for command bytes.now ≡ None) × (subject_in subject ≡ subject_of command bytes.now))
         (IsRefusedWith (fault_for command bytes.now)) }
@@ -73,22 +75,16 @@ fn judge_subject(alloc: Global, subject: Subject) -> Result<Judged, OutOfMemory>
     ensures { IfOk result (IsJudged (subject_in subject)) }
 {
     let Subject { job, claim } = subject;
-    let dfa = job.lang.dfa()?;
-    match close(alloc, &dfa) {
-        Ok(closed) => Ok(Judged::Ready(ClosedJob { job, claim, closed })),
-        Err(open) => match open {
-            Open::NotClosed { left, right } => Ok(Judged::Refused(Said {
-                status: 5,
-                text: open_text(alloc, job.lang.alphabet(), &left, &right)?,
-            })),
-            Open::OutOfMemory => Err(OutOfMemory),
-        },
+    match za_query::judge(alloc, &job)? {
+        za_query::Judged::Open(said) => Ok(Judged::Refused(said)),
+        za_query::Judged::Closed(closed) => Ok(Judged::Ready(ClosedJob { job, claim, closed })),
     }
 }
 
-/// What bytes come to.
-pub(crate) fn judge(alloc: Global, command: Command, bytes: &[u8]) -> Result<Judged, OutOfMemory>
-    requires { length bytes.now < 4294967295 }
+/// What bytes come to that are to say the whole of a job.
+fn judge_whole(alloc: Global, command: Command, bytes: &[u8]) -> Result<Judged, OutOfMemory>
+    requires short { length bytes.now < 4294967295 }
+    requires whole { command ≢ Command.Thaw }
     ensures { IfOk result (AreJudged command bytes.now) }
 {
     match read(alloc, command, bytes) {
@@ -100,5 +96,66 @@ pub(crate) fn judge(alloc: Global, command: Command, bytes: &[u8]) -> Result<Jud
             })),
             JobFault::OutOfMemory => Err(OutOfMemory),
         },
+    }
+}
+
+/// The job of a frozen text whose lines are right up to its cut line: those before it say it.
+fn frozen_job(alloc: Global, bytes: &[u8]) -> Result<Job, OutOfMemory>
+    requires short { length bytes.now < 4294967295 }
+    requires right { reading_fault bytes.now ≡ None }
+    ensures { IfOk result (λ job. data_of job ≡ frozen_job bytes.now) }
+{
+    match read_job(alloc, divide(bytes, &FirstWord(b"cut")).before) {
+        Ok(job) => Ok(job),
+        Err(fault) => match fault {
+            JobFault::Text(_) => unreachable!(),
+            JobFault::OutOfMemory => Err(OutOfMemory),
+        },
+    }
+}
+
+/// What is said to a frozen text of a job with an open language.
+fn open_rest(alloc: Global, bytes: &[u8], left: &Word, right: &Word) -> Result<Said, OutOfMemory>
+    requires short { length bytes.now < 4294967295 }
+    requires right { reading_fault bytes.now ≡ None }
+    requires words { AreBreakWords (completion (frozen_job bytes.now).lang) left.now right.now }
+    ensures status { IfOk result (λ said. said.status ≡ 5) }
+    ensures text { IfOk result (λ said.
+        said.text.items ≡ open_text (frozen_job bytes.now).lang.alphabet left.now right.now) }
+{
+    let job = frozen_job(alloc, bytes)?;
+    let text = open_text(alloc, job.lang.alphabet(), left, right)?;
+    Ok(Said { status: 5, text })
+}
+
+/// What a frozen text comes to.
+fn judge_frozen(alloc: Global, bytes: &[u8]) -> Result<Judged, OutOfMemory>
+    requires { length bytes.now < 4294967295 }
+    ensures { IfOk result (AreJudged Command.Thaw bytes.now) }
+{
+    match thaw(alloc, bytes) {
+        Ok(rest) => Ok(Judged::Rest(rest)),
+        Err(fault) => match fault {
+            ThawFault::Text(fault) => Ok(Judged::Refused(Said {
+                status: 4,
+                text: refused_text(alloc, &fault)?,
+            })),
+            ThawFault::NotClosed { left, right } => {
+                Ok(Judged::Refused(open_rest(alloc, bytes, &left, &right)?))
+            }
+            ThawFault::OutOfMemory => Err(OutOfMemory),
+        },
+    }
+}
+
+/// What bytes come to.
+pub(crate) fn judge(alloc: Global, command: Command, bytes: &[u8]) -> Result<Judged, OutOfMemory>
+    requires { length bytes.now < 4294967295 }
+    ensures { IfOk result (AreJudged command bytes.now) }
+{
+    if let Command::Thaw = command {
+        judge_frozen(alloc, bytes)
+    } else {
+        judge_whole(alloc, command, bytes)
     }
 }

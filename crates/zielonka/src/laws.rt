@@ -6,7 +6,8 @@ ghost use Rattle.zielonka.specs.Laws.{AnswerIsOfAllBytes, CountsStay, NoMemoryWr
 ghost use Rattle.zielonka.specs.Laws.{JobCompletes, JournalEndsAsOne, OpenExactly, OutputIsOne};
 ghost use Rattle.zielonka.specs.Laws.{ReadFaultIsOfTheSource, RefusedExactly};
 ghost use Rattle.zielonka.specs.Laws.{RunCompletes, SomethingIsDue, StatusesAreKnown, TooLongIsOfTheBytes};
-ghost use Rattle.zielonka.specs.Laws.{ThreadsAnswerAsOne, TooManyComplete, TooManyDecide, UsageIsOfTheWords};
+ghost use Rattle.zielonka.specs.Laws.{FrozenTextsAreRead, ThawGoesOn, ThreadsAnswerAsOne};
+ghost use Rattle.zielonka.specs.Laws.{TooManyComplete, TooManyDecide, UsageIsOfTheWords};
 ghost use Rattle.zielonka.specs.Laws.{WordsDecideTheJob, WordsDecideTheUsage, WriteFaultIsOfTheSink};
 
 /// For every job with a trace-closed language that is read to its end without fault, if memory is not refused
@@ -39,6 +40,14 @@ pub fn threads_answer_as_one()
     ensures journal { JournalEndsAsOne }
 {}
 
+/// `thaw` goes on where `freeze` stopped: for the frozen text of a document whose language is trace-closed, after
+/// any number of events, it ends with the status and the text of `solo` for the document. Such texts, and no other
+/// bytes, are what it reads with a trace-closed language.
+pub fn thaw_goes_on()
+    ensures due { ThawGoesOn }
+    ensures read { FrozenTextsAreRead }
+{}
+
 /// `audit` says yes to what `journal` writes, in whatever order the threads fired the letters: the bytes that the
 /// source had and then the text are a job and a claim about it, whose events are a run of the scripts to its end
 /// with the labels by definition, and whose answer is the automaton's.
@@ -47,8 +56,9 @@ pub fn journals_are_audited_yes()
     ensures written { JournalsAreAuditedYes }
 {}
 
-/// The status that is due is 4 exactly where the bytes aren't what the command reads, a job and with `audit` a
-/// claim about it, and 5 exactly where they are and the language of the job has a break.
+/// The status that is due is 4 exactly where the bytes aren't what the command reads: a job, with `audit` a claim
+/// about it too, and with `thaw` a frozen text. It is 5 exactly where no line is wrong and the language of the job
+/// has a break; `thaw` compares the lines of a text with those of the frozen text only where it has none.
 #[tactic(auto, using(crate::proofs::Exactly::refused_exactly, crate::proofs::Exactly::open_exactly))]
 pub fn refusals_are_exact()
     ensures refused { RefusedExactly }
@@ -65,8 +75,8 @@ pub fn refusals_are_exact()
 /// tells its bytes, a run that took so many, with no read that failed, ends with 9, 7 or 8. Status 8,
 /// want of memory, comes with nothing written. But for the 0 of a generated job each of 0, 1, 3, 4 and 5
 /// comes only where all bytes were read, and the text that is due for them was written whole. There are
-/// no statuses but 0 to 9. Where the source tells its bytes and neither count of faults rose, a command
-/// that reads them ends with 8, or, of too many, with 9, or else with what is due for all bytes. A count
+/// no statuses but 0 to 9. Where the source tells its bytes and neither count of faults rose, whatever is
+/// asked of them ends with 8, or, of too many, with 9, or else with what is due for all bytes. A count
 /// that stands at its last value counts as one that rose. What is said of bytes holds of sources and
 /// sinks that tell them.
 pub fn statuses_have_their_causes()

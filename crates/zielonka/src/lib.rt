@@ -11,15 +11,20 @@ mod status;
 
 pub use laws::{
     journals_are_audited_yes, refusals_are_exact, run_is_right, something_is_due,
-    statuses_have_their_causes, threads_answer_as_one, what_is_due_is_one,
+    statuses_have_their_causes, thaw_goes_on, threads_answer_as_one, what_is_due_is_one,
 };
 pub use request::{Call, Command};
 pub use run::{MOST_BYTES, plain, threaded, top};
 pub use status::{Outcome, Shown, Status};
 pub use za_command::{Plan, WordsFault, read_words};
+pub use za_query::Query;
 pub use za_runner::{Gate, OpenGate};
 
+#[cfg(test)]
+mod asked_tests;
 #[cfg(test)]
 mod journal_tests;
 #[cfg(test)]
 mod tests;
+#[cfg(test)]
+mod thaw_tests;

@@ -7,19 +7,21 @@ ghost use Rattle.zielonka.specs.Requests.{request_of};
 use std::alloc::Global;
 use za_alpha::OutOfMemory;
 use za_command::{Plan, WordsFault, read_words};
+use za_query::Query;
 
 /// The calls that take command words. Each has the forms that it answers; other words are none to it.
 #[derive(Clone, Copy, Debug, PartialEq, Eq)]
 pub enum Call {
-    /// `plain` has all forms but those of `run` and `journal`.
+    /// `plain` has all forms but those of `run`, `journal` and `thaw`.
     Plain,
-    /// `threaded` has the forms of `run` and `journal`.
+    /// `threaded` has the forms of `run`, `journal` and `thaw`.
     Threaded,
     /// `top` has all forms.
     Top,
 }
 
-/// A command that reads a job, with so many rows of a cache, 0 to 64. `Audit` reads a claim about it too.
+/// A command that reads a job, with so many rows of a cache, 0 to 64. `Audit` reads a claim about it too, and
+/// `Thaw` what its processes know after the first events of its weave.
 #[derive(Clone, Copy, Debug, PartialEq, Eq)]
 pub enum Command {
     Solo { cache: u8 },
@@ -28,6 +30,7 @@ pub enum Command {
     Locals { cache: u8 },
     Journal { cache: u8 },
     Audit,
+    Thaw,
 }
 
 /// What command words ask of a call.
@@ -37,6 +40,8 @@ pub enum Request {
     Usage,
     /// A command that reads a job.
     Answer(Command),
+    /// What is asked of a text without a run of its scripts.
+    Ask(Query),
     /// The job that is generated from a number.
     Generate { number: u32 },
 }
@@ -46,12 +51,15 @@ fn is_for_threads(plan: Plan) -> bool
     ensures { result ≡ is_for_threads plan }
 {
     match plan {
-        Plan::Run { .. } | Plan::Journal { .. } => true,
+        Plan::Run { .. } | Plan::Journal { .. } | Plan::Thaw => true,
         Plan::Solo { .. }
         | Plan::Check { .. }
         | Plan::Locals { .. }
         | Plan::Audit
-        | Plan::Gen { .. } => false,
+        | Plan::Build
+        | Plan::News
+        | Plan::Gen { .. }
+        | Plan::Freeze { .. } => false,
     }
 }
 
@@ -77,7 +85,11 @@ fn request_by(plan: Plan) -> Request
         Plan::Locals { cache } => Request::Answer(Command::Locals { cache }),
         Plan::Journal { cache } => Request::Answer(Command::Journal { cache }),
         Plan::Audit => Request::Answer(Command::Audit),
+        Plan::Build => Request::Ask(Query::Build),
+        Plan::News => Request::Ask(Query::News),
+        Plan::Thaw => Request::Answer(Command::Thaw),
         Plan::Gen { number } => Request::Generate { number },
+        Plan::Freeze { cut } => Request::Ask(Query::Freeze { cut }),
     }
 }
 

@@ -58,7 +58,7 @@ pub(crate) const APART: &str =
     "zla 1\nprocesses 2\nletter a 0\nletter b 1\nstates 1\nstart 0\naccept 0\n\
     row 0 a 0\nrow 0 b 0\nscript 0 a\nscript 1 b\nend\n";
 
-fn strings(alloc: Global, texts: &[&str]) -> Result<Vec<String>, AllocError> {
+pub(crate) fn strings(alloc: Global, texts: &[&str]) -> Result<Vec<String>, AllocError> {
     let mut strings = Vec::new(alloc);
     for text in texts {
         strings.push(String::from_str(alloc, text)?)?;
@@ -92,7 +92,7 @@ type Case = (
     Ran,
 );
 
-const ACCEPTED: &str = "accept\nfired 4\nbound labels 27 records 3\n";
+pub(crate) const ACCEPTED: &str = "accept\nfired 4\nbound labels 27 records 3\n";
 
 const REUSED: &str = "claim reject\nfire a.0\nfire a.1\nfire a.0\nend\n";
 
@@ -280,14 +280,15 @@ fn the_commands_over_small_jobs(rt: HostRuntime) -> Result<(), Fail> {
     Ok(())
 }
 
-const USAGE: &str = "usage: zla solo|run|check|locals|journal [--cache C], zla audit, zla gen N\n";
+pub(crate) const USAGE: &str =
+    "usage: zla solo|run|check|locals|journal [--cache C], zla audit|build|news|thaw, zla gen N, zla freeze K\n";
 
 /// A sink with room for the usage line.
-fn wide(alloc: Global) -> Result<MemSink, Fail> {
+pub(crate) fn wide(alloc: Global) -> Result<MemSink, Fail> {
     Ok(MemSink::new(alloc, 200, 100, Vec::new(alloc))?)
 }
 
-fn nothing(alloc: Global) -> MemSource {
+pub(crate) fn nothing(alloc: Global) -> MemSource {
     MemSource::new(Vec::new(alloc), 64, Vec::new(alloc))
 }
 

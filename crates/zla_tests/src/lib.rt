@@ -6,6 +6,8 @@ mod audits;
 #[cfg(test)]
 mod documents;
 #[cfg(test)]
+mod failures;
+#[cfg(test)]
 mod gossip;
 #[cfg(test)]
 mod jobs;

@@ -33,7 +33,7 @@ const CHECK: &[&str] = &["check"];
 
 const LOCALS: &[&str] = &["locals"];
 
-const AUDIT: &[&str] = &["audit"];
+pub(crate) const AUDIT: &[&str] = &["audit"];
 
 fn strings(alloc: Global, texts: &[&str]) -> Result<Vec<String>, AllocError> {
     let mut strings = Vec::new(alloc);
@@ -60,13 +60,26 @@ pub(crate) fn assert_run(
     status: u8,
     written: &str,
 ) -> Result<(), Fail> {
+    assert_bytes(rt, alloc, words, streams, text, status, written.as_bytes())
+}
+
+/// The same with bytes in place of a text.
+pub(crate) fn assert_bytes(
+    rt: &impl Abort,
+    alloc: Global,
+    words: &[&str],
+    streams: Streams,
+    text: Vec<u8>,
+    status: u8,
+    written: &[u8],
+) -> Result<(), Fail> {
     assert!(rt; 0 < streams.reads && 0 < streams.writes);
     let mut source = MemSource::new(text, streams.reads, vec![in alloc; streams.failing_read]?);
     let failing = vec![in alloc; streams.failing_write]?;
     let mut sink = MemSink::new(alloc, 400, streams.writes, failing)?;
     let words = strings(alloc, words)?;
     let outcome = plain(alloc, words.as_slice(), &mut source, &mut sink);
-    assert_eq!(rt; sink.bytes(), written.as_bytes());
+    assert_eq!(rt; sink.bytes(), written);
     assert_eq!(rt; outcome.status.0, status);
     Ok(())
 }
@@ -86,7 +99,7 @@ fn assert_case(rt: &impl Abort, alloc: Global, streams: Streams, case: &Case) ->
     assert_run(rt, alloc, words, streams, text, status, written)
 }
 
-const ACCEPTED: &str = "accept\nfired 4\nbound labels 27 records 3\n";
+pub(crate) const ACCEPTED: &str = "accept\nfired 4\nbound labels 27 records 3\n";
 
 const NONE_FIRED: &str = "accept\nfired 0\nbound labels 27 records 3\n";
 
@@ -239,7 +252,8 @@ fn whole_texts(rt: HostRuntime) -> Result<(), Fail> {
     Ok(())
 }
 
-const USAGE: &str = "usage: zla solo|run|check|locals|journal [--cache C], zla audit, zla gen N\n";
+const USAGE: &str =
+    "usage: zla solo|run|check|locals|journal [--cache C], zla audit|build|news|thaw, zla gen N, zla freeze K\n";
 
 /// Words for which nothing is read.
 const UNREAD: [Case; 9] = [
@@ -256,7 +270,12 @@ const UNREAD: [Case; 9] = [
 ];
 
 /// Streams that take so many bytes a call, and of which these calls fail.
-const fn taking(reads: usize, writes: usize, failing_read: u64, failing_write: u64) -> Streams {
+pub(crate) const fn taking(
+    reads: usize,
+    writes: usize,
+    failing_read: u64,
+    failing_write: u64,
+) -> Streams {
     Streams {
         reads,
         writes,

@@ -9,8 +9,8 @@ use Rattle.za_alpha.specs.Alphabet.{NamedLetter, DistributedAlphabet, name_at, p
 use Rattle.za_alpha.specs.Private.Index.{IsIndex}
 
 -- names tell the letters apart
-abbrev pub AreApart : List NamedLetter → Type 0
-AreApart letters = (a b : ℕ) → a < length letters → b < length letters → name_at letters a ≡ name_at letters b → a ≡ b
+abbrev pub AreNamedApart : List NamedLetter → Type 0
+AreNamedApart letters = (a b : ℕ) → a < length letters → b < length letters → name_at letters a ≡ name_at letters b → a ≡ b
 
 -- what holds of an alphabet holds, but that there is a letter
 pub record IsBegun (alphabet : DistributedAlphabet) : Type 0 where
@@ -18,7 +18,7 @@ pub record IsBegun (alphabet : DistributedAlphabet) : Type 0 where
   pub few_processes : alphabet.processes ≤ most_processes
   pub few_letters : length alphabet.letters ≤ most_letters
   pub names : (a : ℕ) → a < length alphabet.letters → IsTrue (is_name (name_at alphabet.letters a))
-  pub apart : AreApart alphabet.letters
+  pub apart : AreNamedApart alphabet.letters
   pub small : (a : ℕ) → a < length alphabet.letters → (procs_at alphabet.letters a).0 < 2 ^ 16
   pub located : IsAlphabet (loc_of alphabet) (length alphabet.letters) alphabet.processes
 

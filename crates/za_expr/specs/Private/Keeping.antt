@@ -27,7 +27,7 @@ use Rattle.za_lang.specs.Namings.{Naming}
 use Rattle.za_lang.specs.Documents.{Said, lang_said}
 use Rattle.za_lang.specs.Gathering.{more, Tells}
 use Rattle.za_lang.specs.Reading.{Keeps}
-use Rattle.za_expr.specs.Documents.{place_by}
+use Rattle.za_expr.specs.Documents.{next_place_with}
 use Rattle.za_expr.specs.Built.{alphabet_said}
 
 -- the refusal of each fault of an expression, and of a table that is too wide
@@ -47,7 +47,8 @@ IsWrongBy has (refusal.Wrong kind) = has (Some kind)
 IsWrongBy has refusal.OutOfMemory = Unit {0}
 
 -- the table of the expression of these tokens
-pub record IsTable (alphabet : DistributedAlphabet) (tokens : List (List ℕ)) (dfa : CompleteDfa) : Type 0 where
+pub record IsExpressionTable (alphabet : DistributedAlphabet) (tokens : List (List ℕ)) (dfa : CompleteDfa)
+    : Type 0 where
   pub signs : List Sign
   pub expression : IsExpressionOf alphabet.letters tokens signs
   pub values : IsValueDfa alphabet signs dfa
@@ -57,12 +58,12 @@ pub record IsBegunJob (naming : Naming) (alphabet : DistributedAlphabet) (tokens
     : Type 0 where
   pub some : ¬ (tokens ≡ [])
   pub dfa : CompleteDfa
-  pub table : IsTable alphabet tokens dfa
+  pub table : IsExpressionTable alphabet tokens dfa
   pub is : job ≡ record { naming = naming; lang = whole_of dfa; scripts = replicate alphabet.processes [] }
 
 -- what lines and one more say
 abbrev pub more_with : Said → List (List ℕ) → Said
-more_with s words = record (more s words) { place = place_by s.place words }
+more_with s words = record (more s words) { place = next_place_with s.place words }
 
 -- the line gives the states of a table
 abbrev pub begins_table : Place → Head → Bool

@@ -21,13 +21,13 @@ abbrev pub FitsDfa : CompleteDfa → LocalStates → Type 0
 FitsDfa d bench = (bench.processes ≡ d.alphabet.processes) × (bench.states ≡ d.states)
 
 -- what one hold tells of the table after it, of a process that has told of so many of its events
-abbrev pub Tells : Served → ℕ → ℕ → TableState → Type 0
-Tells (served.Fired k) told p t =
+abbrev pub TellsServed : Served → ℕ → ℕ → TableState → Type 0
+TellsServed (served.Fired k) told p t =
     IsLast p told k t × (is_in t.state.arrived p ≡ false) × (is_in t.state.ended p ≡ false)
-Tells (served.Waiting a missing by) told p t =
+TellsServed (served.Waiting a missing by) told p t =
     (fired_by (machine t) t.state.journal p ≡ told) × Waits p a.0 missing by t
-Tells served.Ended told p t = (fired_by (machine t) t.state.journal p ≡ told) × (is_in t.state.ended p ≡ true)
-Tells (served.TookUp a) told p t = (fired_by (machine t) t.state.journal p ≡ told) × (hand t.hands a.0 ≡ Some p)
+TellsServed served.Ended told p t = (fired_by (machine t) t.state.journal p ≡ told) × (is_in t.state.ended p ≡ true)
+TellsServed (served.TookUp a) told p t = (fired_by (machine t) t.state.journal p ≡ told) × (hand t.hands a.0 ≡ Some p)
 
 -- the letter in hand after the hold
 abbrev pub letter_after : Served → Option Letter
@@ -47,13 +47,13 @@ abbrev pub letter_number : Option Letter → Option ℕ
 letter_number None = None
 letter_number (Some a) = Some a.0
 
-abbrev pub number_of : Note → ℕ
-number_of n = n.number
+abbrev pub note_number : Note → ℕ
+note_number n = n.number
 
 -- a desk between two calls: it has one number, does not hold the turn and has no slot out
 abbrev pub Rests : ℕ → ℕ → Option ℕ → Bool → Bool → Hand → Type 0
 Rests process told letter over ended me =
-    (map number_of me.0.notes ≡ process ∷ []) × (length (note_of me.0).fired ≡ told) × ((note_of me.0).hand ≡ letter)
+    (map note_number me.0.notes ≡ process ∷ []) × (length (note_of me.0).fired ≡ told) × ((note_of me.0).hand ≡ letter)
     × (me.0.holds ≡ false) × (me.0.over ≡ over) × (me.1 ≡ []) × ((note_of me.0).ended ≡ ended)
 
 -- since the view v0 the process has neither arrived nor ended, or it has arrived once and waits

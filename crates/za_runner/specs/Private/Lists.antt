@@ -6,8 +6,8 @@ use Rattle.za_hall.specs.Halls.{HallState, DeskState, IsOf}
 use Rattle.za_runner.specs.declared.worker.Worked.{Worked}
 use Rattle.za_runner.specs.declared.worker.OwnDesk.{OwnDesk}
 
-abbrev pub numbers : List DeskState → List ℕ
-numbers ds = map (λ (d : DeskState). d.number) ds
+abbrev pub desk_numbers : List DeskState → List ℕ
+desk_numbers ds = map (λ (d : DeskState). d.number) ds
 
 abbrev pub AreOf : HallState → List DeskState → Type 0
 AreOf h ds = All (λ d. IsOf d h) ds

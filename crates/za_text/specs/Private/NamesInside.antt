@@ -9,8 +9,8 @@ use Rattle.za_text.specs.ProcessNames.{AreNames}
 abbrev pub bytes_of : Vec ℕ Global → List ℕ
 bytes_of name = name.items
 
-abbrev pub names_of : Inside → List (List ℕ)
-names_of inside = map bytes_of inside.names.items
+abbrev pub names_inside : Inside → List (List ℕ)
+names_inside inside = map bytes_of inside.names.items
 
 abbrev pub AreNamesInside : Inside → Type 0
-AreNamesInside inside = AreNames (names_of inside)
+AreNamesInside inside = AreNames (names_inside inside)

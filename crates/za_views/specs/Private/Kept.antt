@@ -24,7 +24,7 @@ marked_word inside = record {
 
 -- these are the first n events of the word: each has its letter, its label, and of each process the latest event in
 -- its past; and of each process the row has the last event
-pub record AreMarked
+pub record AreKept
     (loc : ℕ → List ℕ) (processes : ℕ) (w : List ℕ) (n : ℕ) (events : List Event) (own : List (Option ℕ))
     : Type 0 where
   pub count : length events ≡ n
@@ -40,5 +40,5 @@ pub record IsKept (inside : Inside) : Type 0 where
   pub short : length inside.events.items ≤ inside.room
   pub reserved : inside.room ≤ vec_capacity inside.events
   pub marked :
-      AreMarked (loc_of inside.alphabet) inside.alphabet.processes (word_of_events inside.events.items)
+      AreKept (loc_of inside.alphabet) inside.alphabet.processes (word_of_events inside.events.items)
       (length inside.events.items) inside.events.items inside.own

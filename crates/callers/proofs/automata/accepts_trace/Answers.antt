@@ -11,5 +11,6 @@ returns c v word same =
     let value = c.dfa-dfa.ensures.value in
     let whole = subst IsComplete value c.states-states.ensures.whole in
     c.accepts.ensures ∙ ap (λ (x : CompleteDfa). is_accepted (automaton_of x) c.args.w.now) value
-    ∙ c.diamonds_close_the_language.ensures.closed (loc_of d.alphabet) d.alphabet.processes (automaton_of d) whole.distributed.located (total_of_complete d whole) c.dfa-dfa.ensures.diamonds
+    ∙ c.diamonds_close_the_language.ensures.closed (loc_of d.alphabet) d.alphabet.processes (automaton_of d) whole.distributed.located
+    (total_of_complete d whole) c.dfa-dfa.ensures.diamonds
     c.args.w.now v c.requires word same

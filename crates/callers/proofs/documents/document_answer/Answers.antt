@@ -12,12 +12,14 @@ use Rattle.callers.proofs.documents.document_answer.Goals as goal
 pub returns-in-Err-new-clause-answer : goal.returns-in-Err-new-clause-answer
 returns-in-Err-new-clause-answer c =
     let read = c.in_ok-job.ensures.answer.1 in
-    subst (λ (d : CompleteDfa). BreaksDiamond (loc_of d.alphabet) (automaton_of d)) (c.in-Ok.ensures ∙ ap (λ (job : JobData). completion job.lang) read) c.in-Err-new.ensures.1
+    subst (λ (d : CompleteDfa). BreaksDiamond (loc_of d.alphabet) (automaton_of d)) (c.in-Ok.ensures ∙ ap (λ (job : JobData). completion job.lang) read)
+    c.in-Err-new.ensures.1
 
 pub returns-in-Ok-answer-clause-answer : goal.returns-in-Ok-answer-clause-answer
 returns-in-Ok-answer-clause-answer c =
     let read = c.in_ok-job.ensures.answer.1 in
     let d = completion (job_of c.args.bytes.now).lang in
-    subst (λ (scripts : List (List ℕ)). IsAnswer (loc_of d.alphabet) (automaton_of d) (script_of scripts) c.in-Ok-answer.answer) (ap (λ (job : JobData). job.scripts) read)
+    subst (λ (scripts : List (List ℕ)). IsAnswer (loc_of d.alphabet) (automaton_of d) (script_of scripts) c.in-Ok-answer.answer)
+    (ap (λ (job : JobData). job.scripts) read)
     (subst (λ (d : CompleteDfa). IsAnswer (loc_of d.alphabet) (automaton_of d) (script_of c.in_ok-job.job.scripts) c.in-Ok-answer.answer)
     (c.in-Ok-new.ensures.0 ∙ c.in-Ok.ensures ∙ ap (λ (job : JobData). completion job.lang) read) c.in-Ok-answer.ensures)

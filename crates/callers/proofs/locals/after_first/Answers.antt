@@ -11,7 +11,8 @@ use Rattle.za_alpha.proofs.Copies.{same-for-all}
 use Rattle.callers.proofs.locals.after_first.Goals as goal
 
 -- copies of the opening are the local states of the letter's processes before any event
-openings : (d : CompleteDfa) (a count : ℕ) (local : LocalState) (locals : List LocalState) → count ≡ length (loc_of d.alphabet a) → locals ≡ replicate count local →
+openings : (d : CompleteDfa) (a count : ℕ) (local : LocalState) (locals : List LocalState) → count ≡ length (loc_of d.alphabet a) →
+    locals ≡ replicate count local →
     ((p : ℕ) → local ≡ local_after d [] p) → AreLocalsAfter d [] (loc_of d.alphabet a) locals
 openings d a count local locals counted copies same = record {
   word = All-nil _;
@@ -66,4 +67,5 @@ returns c =
     let count : c.count-end.result ≡ length (loc_of d.alphabet c.args.a.0) =
     c.count-end.ensures ∙ ap (λ s. length (members s)) (c.loc.ensures ∙ ap (λ (alphabet : DistributedAlphabet). procs_at alphabet.letters c.args.a.0) same) in
     let all : c.loop.counter ≡ c.count-end.result = omega arith in
-    c.transit.ensures.local [] (openings d c.args.a.0 c.loop.counter c.in_ok-local.local c.loop.bench.locals (all ∙ count) c.loop.invariant.locals c.in_ok-local.ensures)
+    c.transit.ensures.local [] (openings d c.args.a.0 c.loop.counter c.in_ok-local.local c.loop.bench.locals (all ∙ count) c.loop.invariant.locals
+    c.in_ok-local.ensures)

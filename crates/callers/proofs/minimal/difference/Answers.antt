@@ -12,8 +12,11 @@ returns c =
     let u = c.args.u.now in
     let v = c.args.v.now in
     let value = c.dfa-table.ensures.value in
-    difference-is (automaton_of c.args.dfa.now) (automaton_of m) u v c.run-q.result c.run-r.result c.apart.result (ap (λ (a : DistributedAlphabet). length a.letters) found.alphabet) found.language
+    difference-is (automaton_of c.args.dfa.now) (automaton_of m) u v c.run-q.result c.run-r.result c.apart.result
+    (ap (λ (a : DistributedAlphabet). length a.letters) found.alphabet) found.language
     c.requires.first c.requires.second
-    (c.run-q.ensures.value ∙ ap (λ s. walk (step_of c.dfa-table.result.now) s u) c.start.ensures.value ∙ ap (λ (x : CompleteDfa). walk (step_of x) x.start u) value)
-    (c.run-r.ensures.value ∙ ap (λ s. walk (step_of c.dfa-table.result.now) s v) c.start-2.ensures.value ∙ ap (λ (x : CompleteDfa). walk (step_of x) x.start v) value)
+    (c.run-q.ensures.value ∙ ap (λ s. walk (step_of c.dfa-table.result.now) s u) c.start.ensures.value
+    ∙ ap (λ (x : CompleteDfa). walk (step_of x) x.start u) value)
+    (c.run-r.ensures.value ∙ ap (λ s. walk (step_of c.dfa-table.result.now) s v) c.start-2.ensures.value
+    ∙ ap (λ (x : CompleteDfa). walk (step_of x) x.start v) value)
     c.apart.ensures

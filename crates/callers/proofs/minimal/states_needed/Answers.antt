@@ -12,4 +12,5 @@ returns-clause-least c e whole alphabet same =
     let m = c.in_ok-minimal.minimal in
     let letters = ap (λ (a : DistributedAlphabet). length a.letters) (found.alphabet ∙ sym alphabet) in
     subst (λ n. n ≤ e.states) (sym (c.states.ensures.value ∙ ap (λ (x : CompleteDfa). x.states) c.dfa.ensures.value))
-    (minimal-least (automaton_of m.dfa) (automaton_of e) found.access found.minimal found.numbered (total_of_complete e whole) letters (λ w hw. same w hw ∙ sym (found.language w (subst (λ k. IsWord k w) (sym letters) hw))))
+    (minimal-least (automaton_of m.dfa) (automaton_of e) found.access found.minimal found.numbered (total_of_complete e whole) letters
+    (λ w hw. same w hw ∙ sym (found.language w (subst (λ k. IsWord k w) (sym letters) hw))))

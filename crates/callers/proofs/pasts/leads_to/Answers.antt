@@ -19,6 +19,8 @@ returns c =
     let past = in_past (participants (loc_of alphabet) w) c.args.at in
     let marked : past c.args.i ≡ c.has.result =
     sym (get_or-map-range_with_len past 0 (length w) c.args.i c.args.i false c.requires.one (omega arith))
-    ∙ ap (λ row. slice_index_or row c.args.i false) (sym c.in_ok-row.ensures) ∙ get_or_from_slice_get c.in_ok-row.row c.args.i c.has.result false c.has.ensures in
-    let chains = c.past_is_chains.ensures.chains (loc_of alphabet) (length alphabet.letters) alphabet.processes w c.args.at c.args.i c.letters-letters.ensures.whole.located c.requires.word c.requires.other in
+    ∙ ap (λ row. slice_index_or row c.args.i false) (sym c.in_ok-row.ensures)
+    ∙ get_or_from_slice_get c.in_ok-row.row c.args.i c.has.result false c.has.ensures in
+    let chains = c.past_is_chains.ensures.chains (loc_of alphabet) (length alphabet.letters) alphabet.processes w c.args.at c.args.i
+    c.letters-letters.ensures.whole.located c.requires.word c.requires.other in
     ((λ yes. chains.0 (marked ∙ yes)), (λ chain. sym marked ∙ chains.1 chain))

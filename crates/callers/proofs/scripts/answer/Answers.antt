@@ -33,9 +33,12 @@ returns c =
     let same : c.alphabet.result.now ≡ d.alphabet = c.alphabet.ensures ∙ ap (λ (x : CompleteDfa). x.alphabet) value in
     let whole = subst IsComplete value c.states-states.ensures.whole in
     let located = whole.distributed.located in
-    let closed = c.diamonds_close_the_language.ensures.closed (loc_of d.alphabet) d.alphabet.processes (automaton_of d) located (total_of_complete d whole) c.dfa-dfa.ensures.diamonds in
-    let word : woven.word ≡ weave_of d.alphabet c.args.scripts.now = c.in_ok-woven.ensures.weave.word ∙ ap (λ (a : DistributedAlphabet). weave_of a c.args.scripts.now) same in
-    let used = subst (λ (a : DistributedAlphabet). IsTrue woven.whole ↔ Weaves (loc_of a) (length a.letters) scripts woven.word) same c.in_ok-woven.ensures.whole in
+    let closed = c.diamonds_close_the_language.ensures.closed (loc_of d.alphabet) d.alphabet.processes (automaton_of d) located
+    (total_of_complete d whole) c.dfa-dfa.ensures.diamonds in
+    let word : woven.word ≡ weave_of d.alphabet c.args.scripts.now = c.in_ok-woven.ensures.weave.word
+    ∙ ap (λ (a : DistributedAlphabet). weave_of a c.args.scripts.now) same in
+    let used = subst (λ (a : DistributedAlphabet). IsTrue woven.whole ↔ Weaves (loc_of a) (length a.letters) scripts woven.word) same
+    c.in_ok-woven.ensures.whole in
     let full = c.weaving_is_confluent.ensures.maximal (loc_of d.alphabet) (length d.alphabet.letters) d.alphabet.processes scripts located in
     let is : c.answer_of.result ≡ answer_by (automaton_of d) woven = c.answer_of.ensures ∙ ap (λ (x : CompleteDfa). answer_by (automaton_of x) woven) value in
     subst (λ (answer : Answer). IsAnswer (loc_of d.alphabet) (automaton_of d) scripts answer) (sym is)

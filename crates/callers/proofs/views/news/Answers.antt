@@ -14,7 +14,8 @@ pub push-requires-clause-letter : goal.push-requires-clause-letter
 push-requires-clause-letter c =
     let m = length c.args.alphabet.now.letters in
     let P : List ℕ → Type 0 = λ w. IsWord m w in
-    let within = letter-within m c.letters-letters.result.now c.loop-a.a-index (record { 0 = 0 }) (subst P (sym c.letters-letters.ensures) c.requires.word) (omega arith) in
+    let within = letter-within m c.letters-letters.result.now c.loop-a.a-index (record { 0 = 0 }) (subst P (sym c.letters-letters.ensures) c.requires.word)
+    (omega arith) in
     rw c.loop-a.invariant.alphabet within
 
 pub loop-a-preserved : goal.loop-a-preserved
@@ -23,7 +24,8 @@ loop-a-preserved c =
     record {
       alphabet = ap (λ (m : MarkedWord). m.alphabet) c.push.ensures.word ∙ c.loop-a.invariant.alphabet;
       room = ap (λ (m : MarkedWord). m.room) c.push.ensures.word ∙ c.loop-a.invariant.room;
-      word = ap (λ (m : MarkedWord). m.word) c.push.ensures.word ∙ ap (λ w. w ++ (get_or letters c.loop-a.a-index (record { 0 = 0 })).0 ∷ []) c.loop-a.invariant.word
+      word = ap (λ (m : MarkedWord). m.word) c.push.ensures.word
+          ∙ ap (λ w. w ++ (get_or letters c.loop-a.a-index (record { 0 = 0 })).0 ∷ []) c.loop-a.invariant.word
           ∙ sym (map_more (λ (l : Letter). l.0) letters c.loop-a.a-index (record { 0 = 0 }) (omega arith));
     }
 
@@ -34,5 +36,6 @@ returns c =
     let w = c.args.w.now in
     let all : take c.loop-a.a-index letters ≡ letters = take_all c.loop-a.a-index letters (omega arith) in
     let word : c.loop-a.marks.word ≡ w = c.loop-a.invariant.word ∙ ap numbers all ∙ c.letters-letters.ensures in
-    c.latest.ensures ∙ ap (λ (a : DistributedAlphabet). primary (participants (loc_of a) c.loop-a.marks.word) (length c.loop-a.marks.word) c.args.p c.args.q) c.loop-a.invariant.alphabet
+    c.latest.ensures ∙ ap (λ (a : DistributedAlphabet). primary (participants (loc_of a) c.loop-a.marks.word) (length c.loop-a.marks.word) c.args.p c.args.q)
+    c.loop-a.invariant.alphabet
     ∙ ap (λ v. primary (participants (loc_of alphabet) v) (length v) c.args.p c.args.q) word

@@ -9,7 +9,8 @@ use Rattle.za_alpha.proofs.index.place_of_name.Given.{Over}
 use Rattle.za_alpha.proofs.index.place_of_name.Goals as goal
 
 -- the name stands at the place
-named : (g : Over) (c : goal.Then-eq g) → (c.chain.at - 1 < length c.args.items.now) × (name_at (map g.N.Named.letter c.args.items.now) (c.chain.at - 1) ≡ c.args.name.now)
+named : (g : Over) (c : goal.Then-eq g) → (c.chain.at - 1 < length c.args.items.now)
+    × (name_at (map g.N.Named.letter c.args.items.now) (c.chain.at - 1) ≡ c.args.name.now)
 named g c =
     let long = length-map c.args.items.now g.N.Named.letter in
     let i : ℕ = c.chain.at - 1 in

@@ -35,8 +35,10 @@ returns-then-are_same c =
     let job = data_of c.args.job.now in
     let events = c.args.claim.now.events in
     let same = c.if-are_same.ensures ∙ c.answer.ensures in
-    let there : GoesWith (IsHope (automaton job) (walk (automaton job).step (automaton job).start (event_letters events))) c.answer_of-defined.result c.in_ok-hope.hope =
-    subst (λ (x : CompleteDfa). GoesWith (IsHope (automaton_of x) (walk (step_of x) x.start (event_letters events))) c.answer_of-defined.result c.in_ok-hope.hope)
+    let there : GoesWith (IsHope (automaton job) (walk (automaton job).step (automaton job).start (event_letters events))) c.answer_of-defined.result
+    c.in_ok-hope.hope =
+    subst (λ (x : CompleteDfa). GoesWith (IsHope (automaton_of x) (walk (step_of x) x.start (event_letters events))) c.answer_of-defined.result
+    c.in_ok-hope.hope)
     c.in_ok-dfa.ensures
     (subst (λ (q : ℕ). GoesWith (IsHope (automaton_of c.in_ok-dfa.dfa) q) c.answer_of-defined.result c.in_ok-hope.hope) (state-is k) c.in_ok-hope.ensures) in
     let hope = hope-from job events c.requires.alphabet.located c.requires.closed c.requires.whole c.answer_of-defined.result c.in_ok-hope.hope there in

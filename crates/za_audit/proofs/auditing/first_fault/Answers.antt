@@ -20,7 +20,8 @@ returns-then-not-is_next c =
       within = c.loop-at-test.true;
       before = c.loop-at.invariant.right;
       letter =
-          fires-so job events c.loop-at.at c.loop-at.counts c.alphabet-alphabet.result.now false c.loop-at-test.true c.requires.alphabet.located c.loop-at.invariant.counts
+          fires-so job events c.loop-at.at c.loop-at.counts c.alphabet-alphabet.result.now false c.loop-at-test.true c.requires.alphabet.located
+          c.loop-at.invariant.counts
           c.alphabet-alphabet.ensures c.if-not-is_next.ensures;
     }
 
@@ -33,7 +34,8 @@ returns-then-label-event c =
       within = c.loop-at-test.true;
       before = c.loop-at.invariant.right;
       letter =
-          fires-so job events c.loop-at.at c.loop-at.counts c.alphabet-alphabet.result.now true c.loop-at-test.true c.requires.alphabet.located c.loop-at.invariant.counts
+          fires-so job events c.loop-at.at c.loop-at.counts c.alphabet-alphabet.result.now true c.loop-at-test.true c.requires.alphabet.located
+          c.loop-at.invariant.counts
           c.alphabet-alphabet.ensures c.if-not-is_next.ensures;
       label = λ e. c.if-label-event.true (label ∙ sym e);
     }

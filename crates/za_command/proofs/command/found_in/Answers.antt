@@ -23,7 +23,8 @@ pub returns-in_err-matches : goal.returns-in_err-matches
 returns-in_err-matches c =
     let is : app_of c.in_ok-command.command ≡ command_app = c.in_ok-command.ensures in
     let words = map string_bytes c.args.words.now in
-    let kinds : HasKind (fault_of (app_of c.in_ok-command.command) words) c.in_err-matches.field-0.0 = c.in_err-matches.ensures.kinds (ap is_simple_and_free is) in
+    let kinds : HasKind (fault_of (app_of c.in_ok-command.command) words) c.in_err-matches.field-0.0 =
+    c.in_err-matches.ensures.kinds (ap is_simple_and_free is) in
     for_fault _ _ c.from_residual-in_err-matches.result c.in_err-matches.field-0.0 c.from_residual-in_err-matches.ensures.1
     (subst (λ (a : App). HasKind (fault_of a words) c.in_err-matches.field-0.0) is kinds)
 
@@ -33,8 +34,10 @@ returns c =
     let words = map string_bytes c.args.words.now in
     let m = c.in_ok-matches.matches in
     let kinds : fault_of (app_of c.in_ok-command.command) words ≡ [] = c.in_ok-matches.ensures.kinds (ap is_simple_and_free is) in
-    let found : rows_of (found_of m) ≡ matches_of command_app words = (c.in_ok-matches.ensures.matches (ap is_simple is)).0 ∙ ap (λ (a : App). matches_of a words) is in
-    let at : (id : Text) → first_value (found_of m) id ≡ first_of id (matches_of command_app words) = λ id. first_value-rows (found_of m) id ∙ ap (first_of id) found in
+    let found : rows_of (found_of m) ≡ matches_of command_app words = (c.in_ok-matches.ensures.matches (ap is_simple is)).0
+    ∙ ap (λ (a : App). matches_of a words) is in
+    let at : (id : Text) → first_value (found_of m) id ≡ first_of id (matches_of command_app words) = λ id. first_value-rows (found_of m) id
+    ∙ ap (first_of id) found in
     let command_is : _ ≡ (texts_in words).command = c.get_str.ensures ∙ at (codes "command") in
     let number_is : _ ≡ (texts_in words).number = c.get_str-2.ensures ∙ at (codes "number") in
     let cache_is : _ ≡ (texts_in words).cache = c.get_str-3.ensures ∙ at (codes "cache") in

@@ -25,7 +25,8 @@ returns-then-has_foreign c =
 pub returns-in-Ok : goal.returns-in-Ok
 returns-in-Ok c =
     let words = map string_bytes c.args.words.now in
-    let known : list_any is_foreign words ≡ false = sym (list_any-map is_foreign string_bytes c.args.words.now) ∙ sym c.has_foreign.ensures ∙ c.if-has_foreign.false in
+    let known : list_any is_foreign words ≡ false = sym (list_any-map is_foreign string_bytes c.args.words.now) ∙ sym c.has_foreign.ensures
+    ∙ c.if-has_foreign.false in
     let taken = taken_words words (texts_of c.in-Ok.found) known c.in-Ok.ensures.0 c.in-Ok.ensures.1 in
     subst (λ (r : Result Plan WordsFault). MatchResult r (λ plan. plan_of words ≡ Some plan) (λ fault. fault ≡ Usage → plan_of words ≡ None))
     (sym c.ok_or.ensures.value) (or_usage words c.plan_of_found.result (taken ∙ sym c.plan_of_found.ensures))
@@ -33,5 +34,6 @@ returns-in-Ok c =
 pub returns : goal.returns
 returns c =
     let words = map string_bytes c.args.words.now in
-    let known : list_any is_foreign words ≡ false = sym (list_any-map is_foreign string_bytes c.args.words.now) ∙ sym c.has_foreign.ensures ∙ c.if-has_foreign.false in
+    let known : list_any is_foreign words ≡ false = sym (list_any-map is_foreign string_bytes c.args.words.now) ∙ sym c.has_foreign.ensures
+    ∙ c.if-has_foreign.false in
     λ e. refused_words words c.in-Err.fault known c.in-Err.ensures (λ memory. c.in_default.not-OutOfMemory (c.kind.ensures ∙ memory))

@@ -7,8 +7,8 @@ use Rattle.za_lang.specs.declared.version.Version.TheVariants.{Two}
 use Rattle.za_lang.specs.Answers.{data_of}
 use Rattle.za_lang.specs.Documents.{Said, said, end_fault, words_in}
 use Rattle.za_lang.specs.Reading.{nothing, IsReading}
-use Rattle.za_expr.specs.Built.{IsRefused}
-use Rattle.za_expr.specs.Documents.{place_after, said_with, tokens_in}
+use Rattle.za_expr.specs.Built.{IsBuildFault}
+use Rattle.za_expr.specs.Documents.{place_with, said_with, tokens_in}
 use Rattle.za_expr.specs.Private.Keeping.{more_with, KeepsWith}
 use Rattle.za_expr.proofs.Faults.{begins, goes_on, stops, ends}
 use Rattle.za_expr.proofs.Saying.{said_with_none}
@@ -39,7 +39,8 @@ lines-preserved c =
     let left = lines_of c.next.new.self.rest in
     let reading = c.take.new.reading in
     let taken = c.in_default-take.ensures.taken (said_with before) (tokens_in before) c.lines.invariant.shows in
-    let on = goes_on all n c.next.new.self.passed (lines_of c.lines.lines.rest) line left c.lines.invariant.read c.in-Some.ensures.first taken.0 c.in-Some.ensures.passed in
+    let on = goes_on all n c.next.new.self.passed (lines_of c.lines.lines.rest) line left c.lines.invariant.read c.in-Some.ensures.first taken.0
+    c.in-Some.ensures.passed in
     record {
       read = on.0;
       whole = c.in_default-take.ensures.whole;
@@ -55,8 +56,9 @@ returns-in-Err-clause-answer c =
     let line = raw c.in-Some.line in
     let left = lines_of c.next.new.self.rest in
     let wrong = c.in-Err.ensures.taken (said_with before) (tokens_in before) c.lines.invariant.shows in
-    subst (IsRefused bytes) (sym c.fault_at.ensures)
-    (stops bytes n c.in-Some.line.number (lines_of c.lines.lines.rest) line left c.lines.invariant.read c.in-Some.ensures.first c.in-Some.ensures.number c.in-Err.refusal wrong)
+    subst (IsBuildFault bytes) (sym c.fault_at.ensures)
+    (stops bytes n c.in-Some.line.number (lines_of c.lines.lines.rest) line left c.lines.invariant.read c.in-Some.ensures.first c.in-Some.ensures.number
+    c.in-Err.refusal wrong)
 
 pub returns-in-Some-into_job-clause-answer : goal.returns-in-Some-into_job-clause-answer
 returns-in-Some-into_job-clause-answer c =
@@ -69,4 +71,4 @@ returns-in-Some-into_job-clause-answer c =
     subst (λ (r : Reading). KeepsWith r (said_with (take n all)) (tokens_in (take n all))) ended c.lines.invariant.shows in
     let shows = subst (λ (ls : List RawLine). KeepsWith (reading.Body AfterEnd job) (said_with ls) (tokens_in ls)) e.1 keeps in
     let whole : IsReading (reading.Body AfterEnd job) = subst IsReading ended c.lines.invariant.whole in
-    (e.0 None (ap (λ p. end_fault p n) keeps.at), going_whole AfterEnd (place_after all) (data_of job) (said Two all) (tokens_in all) whole.1 shows)
+    (e.0 None (ap (λ p. end_fault p n) keeps.at), going_whole AfterEnd (place_with all) (data_of job) (said Two all) (tokens_in all) whole.1 shows)

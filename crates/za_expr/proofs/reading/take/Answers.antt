@@ -19,7 +19,8 @@ returns-clause-taken c s tokens h =
     let words : words_of line.text ≡ first ∷ rest = sym c.new-words.ensures ∙ c.in-Some.ensures in
     let at = c.place.ensures ∙ kept_at c.args.reading.now s tokens h in
     let version = c.version_at.ensures ∙ ap version_at at in
-    let no : begins_comment (version_at s.place) first ≡ false = ap (λ v. begins_comment v first) (sym version) ∙ sym c.is_comment.ensures ∙ c.if-is_comment.false in
+    let no : begins_comment (version_at s.place) first ≡ false = ap (λ v. begins_comment v first) (sym version) ∙ sym c.is_comment.ensures
+    ∙ c.if-is_comment.false in
     let whole : line.whole ≡ true = c.if-not-line.false in
     let allowed : list_all is_allowed line.text ≡ true = sym c.are_allowed.ensures ∙ c.if-not-are_allowed.false in
     MatchResult-weaker c.take_words.result (c.take_words.ensures.taken s tokens h)

@@ -14,5 +14,6 @@ returns-in_ok-job-in-Letters-Two-default-default-clause-taken c s tokens h =
     let job = c.in_ok-job-in-Letters-Two-default-default in
     let begun = job.ensures.said in
     let early : KeepsWith (reading.Letters Two b.names b.letters) s tokens = search (rules, h) in
-    let right = subst (λ (t : Said). HasExpressionFault t.letters c.args.words None) (sym early.keeps) (begun_right b.letters c.args.words begun.dfa begun.some begun.table) in
+    let right = subst (λ (t : Said). HasExpressionFault t.letters c.args.words None) (sym early.keeps)
+    (begun_right b.letters c.args.words begun.dfa begun.some begun.table) in
     (right, begun_going b.names b.letters c.args.words tokens (data_of job.job) s early.keeps early.none job.ensures.whole begun)

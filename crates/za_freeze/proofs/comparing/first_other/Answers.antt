@@ -1,7 +1,8 @@
 use Rattle.std.proofs.Common.{◌+◌, ap, sym, ◌∙◌, arith}
 use Rattle.za_freeze.proofs.FirstOther.{left_over, left-past, left-short, left-apart, left-feed, left-alike}
 use Rattle.za_freeze.proofs.comparing.first_other.Goals as goal
-use Rattle.za_freeze.proofs.comparing.first_other.Goals.{then-other-i-via-then-other-i, then-other-i-via-else-other-i+then-text-i, then-text-i-eq10, else-text-i-eq10}
+use Rattle.za_freeze.proofs.comparing.first_other.Goals.{then-other-i-via-then-other-i, then-other-i-via-else-other-i+then-text-i, then-text-i-eq10}
+use Rattle.za_freeze.proofs.comparing.first_other.Goals.{else-text-i-eq10}
 
 pub returns-then-other-i : goal.returns-then-other-i
 returns-then-other-i c =

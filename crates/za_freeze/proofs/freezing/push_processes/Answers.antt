@@ -13,7 +13,8 @@ use Rattle.za_freeze.proofs.freezing.push_processes.Goals.{After-processes-p-end
 -- how many processes there are
 many : (c : After-processes-p-end) → c.processes-p-end.result ≡ c.args.closed.now.alphabet.processes
 many c =
-    c.processes-p-end.ensures.value ∙ ap (λ (a : DistributedAlphabet). a.processes) (c.alphabet.ensures ∙ ap (λ (d : CompleteDfa). d.alphabet) c.dfa.ensures.value)
+    c.processes-p-end.ensures.value
+    ∙ ap (λ (a : DistributedAlphabet). a.processes) (c.alphabet.ensures ∙ ap (λ (d : CompleteDfa). d.alphabet) c.dfa.ensures.value)
 
 pub bounds-locals-p : goal.bounds-locals-p
 bounds-locals-p c =
@@ -27,7 +28,8 @@ pub push_process-requires-clause-local : goal.push_process-requires-clause-local
 push_process-requires-clause-local c =
     let at = goal.at.push_process-requires-clause-local c in
     let n = many at.After-processes-p-end in
-    c.index-locals-p.is ∙ local-at c.args.closed.now (numbers c.args.letters.now) c.args.locals.now c.requires.locals c.loop-p.p c.index-locals-p.result (omega arith)
+    c.index-locals-p.is ∙ local-at c.args.closed.now (numbers c.args.letters.now) c.args.locals.now c.requires.locals c.loop-p.p c.index-locals-p.result
+    (omega arith)
 
 pub loop-p-preserved : goal.loop-p-preserved
 loop-p-preserved c =

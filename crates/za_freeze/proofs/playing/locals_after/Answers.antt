@@ -49,7 +49,8 @@ loop-a-preserved c =
     let len = c.as_mut_slice.ensures.len in
     let all = take_at new (drop (length new) old) c.loop-a.locals.len (omega arith) in
     record {
-      locals = subst (AreAllLocalsAfter d (numbers (take (i + 1) letters))) (sym all) (subst (λ v. AreAllLocalsAfter d v new) (letters-more letters i (omega arith)) fired);
+      locals = subst (AreAllLocalsAfter d (numbers (take (i + 1) letters))) (sym all)
+          (subst (λ v. AreAllLocalsAfter d v new) (letters-more letters i (omega arith)) fired);
       processes = c.fire_on.ensures.processes;
       states = c.fire_on.ensures.states;
       fresh = c.fire_on.ensures.shape;
@@ -57,5 +58,6 @@ loop-a-preserved c =
 
 pub returns : goal.returns
 returns c =
-    subst (λ (xs : List Letter). AreAllLocalsAfter c.args.closed.now (numbers xs) c.loop-a.locals.items) (take_all c.loop-a.a-index c.args.letters.now (omega arith))
+    subst (λ (xs : List Letter). AreAllLocalsAfter c.args.closed.now (numbers xs) c.loop-a.locals.items)
+    (take_all c.loop-a.a-index c.args.letters.now (omega arith))
     c.loop-a.invariant.locals

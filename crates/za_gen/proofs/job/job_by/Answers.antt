@@ -28,7 +28,8 @@ returns-clause-value c =
     c.in_ok-alphabet.ensures c.in_ok-accepting.ensures c.in_ok-targets.ensures
     ∙ ap (λ (q : ℕ). table_with generated_alphabet 0 (accepting_at q) generated_targets) c.reached.ensures.value in
     same-job c.in_ok-lang.lang (record { naming = generated_naming; table = whole_of (generated_dfa w) }) c.in_ok-scripts.scripts (generated_scripts w)
-    (c.in_ok-lang.ensures ∙ ap (λ (d : CompleteDfa). let lang : LangData = record { naming = record { version = One; names = numbered d.alphabet.processes }; table = whole_of d } in lang) dfa)
+    (c.in_ok-lang.ensures ∙ ap (λ (d : CompleteDfa). let lang : LangData =
+    record { naming = record { version = One; names = numbered d.alphabet.processes }; table = whole_of d } in lang) dfa)
     c.in_ok-scripts.ensures
 
 pub returns-clause-fit : goal.returns-clause-fit

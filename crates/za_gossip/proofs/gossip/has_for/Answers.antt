@@ -17,4 +17,5 @@ loop-q-preserved c =
 
 pub returns : goal.returns
 returns c =
-    sym (any-none (λ q. slice_index (event_numbers c.args.secondary.now) (q * c.args.n + c.args.r) == c.args.event.0) c.args.n (λ k l. c.loop-q.invariant k (omega arith)))
+    sym (any-none (λ q. slice_index (event_numbers c.args.secondary.now) (q * c.args.n + c.args.r) == c.args.event.0) c.args.n
+    (λ k l. c.loop-q.invariant k (omega arith)))

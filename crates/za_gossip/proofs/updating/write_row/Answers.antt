@@ -1,4 +1,5 @@
-use Rattle.std.proofs.Common.{◌≡◌, ℕ, suc, ◌+◌, ◌-◌, ◌*◌, ◌/◌, ◌%◌, ◌<◌, ◌≤◌, inl, inr, List, [], length, get_or, take, drop, ◌++◌, slice_index, map, Option, Some, None, sym, ap, subst, ◌∙◌, arith, length-take-le}
+use Rattle.std.proofs.Common.{◌≡◌, ℕ, suc, ◌+◌, ◌-◌, ◌*◌, ◌/◌, ◌%◌, ◌<◌, ◌≤◌, inl, inr, List, [], length, get_or, take, drop, ◌++◌, slice_index, map, Option}
+use Rattle.std.proofs.Common.{Some, None, sym, ap, subst, ◌∙◌, arith, length-take-le}
 use Rattle.std.proofs.Math.Nat.{suc-mul, mul-le-mul_right}
 use Rattle.std.proofs.lemmas.Bool.{cases_lt}
 use Rattle.std.proofs.lemmas.Nat.{div-mul-add, mod-mul-add}
@@ -15,7 +16,8 @@ use Rattle.za_gossip.proofs.updating.write_row.Goals as goal
 use Rattle.za_gossip.proofs.updating.write_row.Goals.{then-not-is_first, else-not-is_first, Joined-not-is_first}
 
 -- after a part that was written the elements stay
-part-after : {X : Type 0} (a k : ℕ) (xs ys : List X) (i : ℕ) (d : X) → length ys ≡ k → a ≤ length xs → a + k ≤ i → get_or (put_mid a k xs ys) i d ≡ get_or xs i d
+part-after : {X : Type 0} (a k : ℕ) (xs ys : List X) (i : ℕ) (d : X) → length ys ≡ k → a ≤ length xs → a + k ≤ i →
+    get_or (put_mid a k xs ys) i d ≡ get_or xs i d
 part-after a k xs ys i d long room l =
     let at : a + (k + (i - a - k)) ≡ i = omega arith in
     get_or-append_right (take a xs) (ys ++ post_of a k xs) a i d (length-take-le a xs room) (omega arith)

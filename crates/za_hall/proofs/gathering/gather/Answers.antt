@@ -9,7 +9,7 @@ use Rattle.za_hall.specs.Rule.{Hand, Slot, EachNote, NoteOk, IsCovered}
 use Rattle.za_hall.specs.Views.{View, Note}
 use Rattle.za_hall.specs.Answers.{note_of, first_note}
 use Rattle.za_hall.specs.Halls.{DeskState, IsOf}
-use Rattle.za_hall.specs.Private.Serving.{number_of}
+use Rattle.za_hall.specs.Private.Serving.{note_number}
 use Rattle.za_hall.specs.Private.Inside.{hall_of}
 use Rattle.za_hall.proofs.Told.{one_note}
 use Rattle.za_hall.proofs.Seats.{joins}
@@ -30,11 +30,11 @@ over_right true y e = refl
 over_right false y e = e
 
 -- the number of a seat's one note
-number_is : (v w : View) (p : ℕ) → v ≡ w → map number_of v.notes ≡ p ∷ [] → (note_of w).number ≡ p
+number_is : (v w : View) (p : ℕ) → v ≡ w → map note_number v.notes ≡ p ∷ [] → (note_of w).number ≡ p
 number_is v w p e n = let o = one_note v.notes p n in ap (λ (u : View). (note_of u).number) (sym e) ∙ (ap (λ ns. (first_note ns).number) o.1 ∙ o.2)
 
 -- and it is among the notes
-note_in : (v w : View) (p : ℕ) → v ≡ w → map number_of v.notes ≡ p ∷ [] → Contains v.notes (note_of w)
+note_in : (v w : View) (p : ℕ) → v ≡ w → map note_number v.notes ≡ p ∷ [] → Contains v.notes (note_of w)
 note_in v w p e n = subst (λ (u : View). Contains v.notes (note_of u)) e (first_in v.notes p n)
 
 pub loop-desk-init : goal.loop-desk-init

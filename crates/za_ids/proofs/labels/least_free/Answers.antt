@@ -11,7 +11,8 @@ use Rattle.za_ids.proofs.labels.least_free.Goals as goal
 use Rattle.za_ids.proofs.labels.least_free.Goals.{After-first_unmarked}
 
 -- the labels below the first that is not marked are taken
-taken-below : (c : After-first_unmarked) (k : ℕ) → k < c.first_unmarked.result → k ≤ c.args.n ^ 3 → has (event_numbers c.args.ids.now) (number_of c.args.n c.args.a.0 k) ≡ true
+taken-below : (c : After-first_unmarked) (k : ℕ) → k < c.first_unmarked.result → k ≤ c.args.n ^ 3 →
+    has (event_numbers c.args.ids.now) (number_of c.args.n c.args.a.0 k) ≡ true
 taken-below c k l h =
     let marked = λ (j : ℕ). get_or c.as_slice.result.now j false in
     let value = c.first_unmarked.ensures.value in

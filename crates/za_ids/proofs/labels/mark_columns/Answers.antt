@@ -19,7 +19,8 @@ pub loop-s-init : goal.loop-s-init
 loop-s-init c = record {
   size = refl;
   marked = λ i s k li ls. absurd (omega arith);
-  sound = λ k l t. absurd (let f = ap (λ (xs : List Bool). slice_index_or xs k false) c.requires.none ∙ none-marked 1002 k in let z : true ≡ false = sym t ∙ f in cc);
+  sound = λ k l t. absurd (let f = ap (λ (xs : List Bool). slice_index_or xs k false) c.requires.none ∙ none-marked 1002 k in let z : true ≡ false = sym t
+      ∙ f in cc);
 }
 
 pub returns-clause-marks : goal.returns-clause-marks
@@ -27,5 +28,7 @@ returns-clause-marks c =
     let n : ℕ = c.args.n in
     let end = c.loop-s-test.false in
     let some = c.requires.some_process in
-    all-marked n c.args.a.0 some (members c.args.processes) (event_numbers c.args.ids.now) c.requires.columns (length-map c.args.ids.now (λ (id : EventId). id.0) ∙ c.requires.numbers) c.loop-s.taken c.id_of-first.result.0 c.label_count-labels.result
-    c.id_of-first.ensures c.label_count-labels.ensures.value (λ i s k li ls own lk e. c.loop-s.invariant.marked i s k li (omega arith) own lk e) c.loop-s.invariant.sound
+    all-marked n c.args.a.0 some (members c.args.processes) (event_numbers c.args.ids.now) c.requires.columns
+    (length-map c.args.ids.now (λ (id : EventId). id.0) ∙ c.requires.numbers) c.loop-s.taken c.id_of-first.result.0 c.label_count-labels.result
+    c.id_of-first.ensures c.label_count-labels.ensures.value (λ i s k li ls own lk e. c.loop-s.invariant.marked i s k li (omega arith) own lk e)
+    c.loop-s.invariant.sound

@@ -28,7 +28,8 @@ loop-word-preserved c =
     let words : c.loop-word.words ≡ c.in-Some.word.now ∷ rest = c.in-Some.ensures in
     let right : step_fault letters p (total_of mid) o item.count ≡ None = c.in_ok-add_item.ensures.0 in
     let one : AreAdded alphabet mid new p (run_of o item.count) = c.in_ok-add_item.ensures.1 in
-    let size : total_of mid + unwrap_or item.count 0 ≡ total_of new = let t = one.total in let n = step_size letters p (total_of mid) o item.count right in omega arith in
+    let size : total_of mid + unwrap_or item.count 0 ≡ total_of new = let t = one.total in let n = step_size letters p (total_of mid) o item.count right in
+    omega arith in
     let before = c.loop-word.invariant.added.0 in
     let had = c.loop-word.invariant.added.1 in
     record {

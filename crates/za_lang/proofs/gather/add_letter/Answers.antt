@@ -20,8 +20,10 @@ returns c =
     let one = one_run alphabet old p a c.requires.limits.few_letters in
     let right = run_right alphabet old p a 1 (sym one ∙ c.in_ok-add.ensures.fault) in
     let full = right.1 in
-    let room : total_of old + 1 ≤ most_script_letters = grind (arith, nat_tests) in
-    (step_right alphabet.letters p (total_of old) a.0 1 right.0 right.1, added_run alphabet old c.add.new.self p a.0 1 c.requires.process c.requires.limits room c.requires.letter right.0 c.in_ok-add.ensures.ok)
+    let room : total_of old + 1 ≤ most_script_letters = grind (arith, nat_tests) in (
+      step_right alphabet.letters p (total_of old) a.0 1 right.0 right.1,
+      added_run alphabet old c.add.new.self p a.0 1 c.requires.process c.requires.limits room c.requires.letter right.0 c.in_ok-add.ensures.ok,
+    )
 
 pub returns-in_err-add : goal.returns-in_err-add
 returns-in_err-add c =

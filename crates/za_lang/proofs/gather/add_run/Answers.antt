@@ -29,7 +29,10 @@ returns c =
     let right = run_right alphabet old c.args.p c.in-Some.a n c.in_ok-add_run.ensures.fault in
     let full = right.1 in
     let room : total_of old + n ≤ most_script_letters = grind (arith, nat_tests) in
-    rw (found, count) (step_right alphabet.letters c.args.p (total_of old) a n right.0 right.1, added_run alphabet old c.add_run.new.self c.args.p a n c.requires.process c.requires.limits room known right.0 c.in_ok-add_run.ensures.ok)
+    rw (found, count) (
+      step_right alphabet.letters c.args.p (total_of old) a n right.0 right.1,
+      added_run alphabet old c.add_run.new.self c.args.p a n c.requires.process c.requires.limits room known right.0 c.in_ok-add_run.ensures.ok,
+    )
 
 pub returns-in_err-add_run : goal.returns-in_err-add_run
 returns-in_err-add_run c =
@@ -39,6 +42,7 @@ returns-in_err-add_run c =
     let n = c.in-Some-count.count in
     let found : place_of alphabet.letters c.args.item.name.now ≡ Some a = sym c.in-Some.ensures in
     let count : c.args.item.count ≡ Some n = c.in-Some-count.is in
-    let wrong : IsWrong (step_fault alphabet.letters c.args.p (total_of old) (place_of alphabet.letters c.args.item.name.now) c.args.item.count) (refusal_of_step c.in_err-add_run.field-0.0) =
+    let wrong : IsWrong (step_fault alphabet.letters c.args.p (total_of old) (place_of alphabet.letters c.args.item.name.now) c.args.item.count)
+    (refusal_of_step c.in_err-add_run.field-0.0) =
     rw (found, count) (wrong_run alphabet old c.args.p c.in-Some.a n c.in_err-add_run.field-0.0 c.in_err-add_run.ensures.fault) in
     search (rules, wrong)

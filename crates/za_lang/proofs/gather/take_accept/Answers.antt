@@ -11,5 +11,6 @@ pub returns-clause-taken : goal.returns-clause-taken
 returns-clause-taken c s h =
     let job = data_of c.args.job.now in (
       ap (λ n. accept_line_fault n c.args.words) (sym h.states) ∙ c.in_ok-accept_states.ensures.taken.0,
-      subst (λ (lang : LangData). Tells (record job { naming = lang.naming; lang = lang.table }) (more_said s head.Accept c.args.words)) (sym c.in_ok-accept_states.ensures.taken.1) (accept_told job s c.args.words h),
+      subst (λ (lang : LangData). Tells (record job { naming = lang.naming; lang = lang.table }) (more_said s head.Accept c.args.words))
+          (sym c.in_ok-accept_states.ensures.taken.1) (accept_told job s c.args.words h),
     )

@@ -13,7 +13,8 @@ returns-in_err-enter-clause-rows c rows entered =
     let row = c.in_ok-row.row in
     let at = c.in_ok-row.ensures.row in
     let other = other_of_entered lang rows entered row.from row.letter.0 row.to at.1 at.2 in
-    let fault : row_line_fault lang.states lang.alphabet.letters rows c.args.words ≡ Some TwoTargets = c.in_ok-row.ensures.said rows ∙ ap (λ b. cond b (Some TwoTargets) None) (other ∙ c.in_err-enter.ensures.answer.0) in
+    let fault : row_line_fault lang.states lang.alphabet.letters rows c.args.words ≡ Some TwoTargets = c.in_ok-row.ensures.said rows
+    ∙ ap (λ b. cond b (Some TwoTargets) None) (other ∙ c.in_err-enter.ensures.answer.0) in
     search (rules, fault)
 
 pub returns-clause-rows : goal.returns-clause-rows
@@ -26,5 +27,6 @@ returns-clause-rows c rows entered =
     let other = other_of_entered lang rows entered row.from row.letter.0 row.to at.1 at.2 in (
       c.in_ok-row.ensures.said rows ∙ ap (λ b. cond b (Some TwoTargets) None) (other ∙ answer.0),
       subst (λ said. AreEntered c.enter.new.self.table (rows ++ said)) (sym at.0)
-          (subst (λ (l : LangData). AreEntered l.table (rows ++ table_row ∷ [])) (sym answer.1) (entered_more lang rows entered table_row at.1 at.3 at.2 answer.0)),
+          (subst (λ (l : LangData). AreEntered l.table (rows ++ table_row ∷ [])) (sym answer.1)
+          (entered_more lang rows entered table_row at.1 at.3 at.2 answer.0)),
     )

@@ -10,5 +10,6 @@ returns-in_ok-job-in-States-clause-taken c =
     let naming = naming_of c.args.version c.args.names in
     let letters = c.args.letters in
     let said = c.in_ok-job-in-States.ensures.said in
-    let told = subst (λ j. Tells j (more_said (letters_told naming letters) head.States c.args.words)) (sym said.1.1.1) (blank_told naming letters c.args.words said.1.0 c.requires.few.named.size said.1.1.0) in
+    let told = subst (λ j. Tells j (more_said (letters_told naming letters) head.States c.args.words)) (sym said.1.1.1)
+    (blank_told naming letters c.args.words said.1.0 c.requires.few.named.size said.1.1.0) in
     rw c.in-States.is (said.0, (refl, told), λ later version. tt)

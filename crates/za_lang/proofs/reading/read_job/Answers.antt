@@ -17,7 +17,8 @@ pub lines-init : goal.lines-init
 lines-init c =
     let all = lines_of c.args.bytes.now in
     let v = version_of all in
-    rw (c.new-lines.ensures.passed, c.new-lines.ensures.rest) (record { read = begins v all; whole = tt; shows = said_none v ∙ ap nothing (sym (said_version v [])); awaits = refl })
+    rw (c.new-lines.ensures.passed, c.new-lines.ensures.rest)
+    (record { read = begins v all; whole = tt; shows = said_none v ∙ ap nothing (sym (said_version v [])); awaits = refl })
 
 pub lines-preserved : goal.lines-preserved
 lines-preserved c =
@@ -32,7 +33,8 @@ lines-preserved c =
     let awaits = subst (λ u. Awaits c.lines.reading (version_by (version_of left) (words_of line.text)) u) (sym is)
     (subst (λ ls. Awaits c.lines.reading (version_of ls) v) c.in-Some.ensures.first c.lines.invariant.awaits) in
     let taken = c.in_default-take.ensures.taken s (version_of left) c.lines.invariant.shows awaits in
-    let on = goes_on v all n c.next.new.self.passed (lines_of c.lines.lines.rest) line left c.lines.invariant.read c.in-Some.ensures.first taken.0 c.in-Some.ensures.passed in
+    let on = goes_on v all n c.next.new.self.passed (lines_of c.lines.lines.rest) line left c.lines.invariant.read c.in-Some.ensures.first taken.0
+    c.in-Some.ensures.passed in
     record {
       read = on.0;
       whole = c.in_default-take.ensures.whole;
@@ -54,7 +56,8 @@ returns-in-Err-clause-answer c =
     (subst (λ ls. Awaits c.lines.reading (version_of ls) v) c.in-Some.ensures.first c.lines.invariant.awaits) in
     let wrong = c.in-Err.ensures.taken s (version_of left) c.lines.invariant.shows awaits in
     subst (IsRefused bytes) (sym c.fault_at.ensures)
-    (stops bytes n c.in-Some.line.number (lines_of c.lines.lines.rest) line left c.lines.invariant.read c.in-Some.ensures.first c.in-Some.ensures.number c.in-Err.refusal wrong)
+    (stops bytes n c.in-Some.line.number (lines_of c.lines.lines.rest) line left c.lines.invariant.read c.in-Some.ensures.first c.in-Some.ensures.number
+    c.in-Err.refusal wrong)
 
 pub returns-in-Some-into_job-clause-answer : goal.returns-in-Some-into_job-clause-answer
 returns-in-Some-into_job-clause-answer c =
@@ -64,6 +67,7 @@ returns-in-Some-into_job-clause-answer c =
     let job = c.in-Some-into_job.job in
     let e = ends v all n (lines_of c.lines.lines.rest) c.lines.invariant.read c.in_default.ensures.none in
     let ended = c.in-Some-into_job.ensures in
-    let shows : Keeps (reading.Body AfterEnd job) (said v all) = subst (λ (r : Reading). Keeps r (said v all)) ended (subst (λ ls. Keeps c.lines.reading (said v ls)) e.1 c.lines.invariant.shows) in
+    let shows : Keeps (reading.Body AfterEnd job) (said v all) =
+    subst (λ (r : Reading). Keeps r (said v all)) ended (subst (λ ls. Keeps c.lines.reading (said v ls)) e.1 c.lines.invariant.shows) in
     let whole : IsReading (reading.Body AfterEnd job) = subst IsReading ended c.lines.invariant.whole in
     (e.0 ∙ ap (λ p. end_fault p n) (sym shows.0), told_whole (data_of job) (said v all) whole.1 shows.1)

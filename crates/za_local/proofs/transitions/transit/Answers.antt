@@ -18,7 +18,8 @@ alphabet c = c.alphabet-alphabet.ensures ∙ ap (λ (d : CompleteDfa). d.alphabe
 pub set_masks-requires-clause-rows : goal.set_masks-requires-clause-rows
 set_masks-requires-clause-rows c = (
   c.requires.locals.0,
-  rows-given c.args.closed.now c.alphabet-alphabet.result.now (alphabet (goal.at.set_masks-requires-clause-rows c).After-gossips) (Some c.args.a) c.args.bench.now.locals c.gossips.result.now c.gossips.ensures
+  rows-given c.args.closed.now c.alphabet-alphabet.result.now (alphabet (goal.at.set_masks-requires-clause-rows c).After-gossips)
+      (Some c.args.a) c.args.bench.now.locals c.gossips.result.now c.gossips.ensures
       c.requires.locals.0 c.requires.locals.1,
 )
 

@@ -8,4 +8,5 @@ returns-in-None c = alike-one (automaton_of c.args.dfa.now) c.args.q c.args.r c.
 
 pub returns-in_ok-word-in-Some : goal.returns-in_ok-word-in-Some
 returns-in_ok-word-in-Some c =
-    split-apart (automaton_of c.args.dfa.now) (total_of_complete c.args.dfa.now c.requires.rounds.whole) c.in-Some.round c.args.q c.args.r c.in_ok-word-in-Some.word c.in-Some.ensures.1 c.in_ok-word-in-Some.ensures
+    split-apart (automaton_of c.args.dfa.now) (total_of_complete c.args.dfa.now c.requires.rounds.whole) c.in-Some.round c.args.q c.args.r
+    c.in_ok-word-in-Some.word c.in-Some.ensures.1 c.in_ok-word-in-Some.ensures

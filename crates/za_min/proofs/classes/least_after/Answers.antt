@@ -8,7 +8,8 @@ use Rattle.za_min.proofs.classes.least_after.Goals as goal
 
 pub returns-then-is_same_after : goal.returns-then-is_same_after
 returns-then-is_same_after c =
-    least-is (λ r. same_after (automaton_of c.args.dfa.now) (option_copied c.args.before) r c.args.q) c.args.dfa.now.states c.loop-r.r (omega arith) c.loop-r.invariant
+    least-is (λ r. same_after (automaton_of c.args.dfa.now) (option_copied c.args.before) r c.args.q) c.args.dfa.now.states c.loop-r.r
+    (omega arith) c.loop-r.invariant
     (sym c.is_same_after.ensures ∙ c.if-is_same_after.true)
 
 pub returns : goal.returns

@@ -22,7 +22,8 @@ returns-then-is_stable c =
       whole = c.states.ensures.whole;
       rounds = record {
         last = k;
-        rows_each = c.in_ok-push.ensures.items ∙ ap (λ rows. rows ++ c.loop-classes.classes ∷ []) c.loop-classes.invariant.rows ∙ ap (λ row. map (rounds d) (range_with_len 0 k) ++ row ∷ []) e
+        rows_each = c.in_ok-push.ensures.items ∙ ap (λ rows. rows ++ c.loop-classes.classes ∷ []) c.loop-classes.invariant.rows
+            ∙ ap (λ row. map (rounds d) (range_with_len 0 k) ++ row ∷ []) e
             ∙ sym (map-range_with_len_more (rounds d) 0 k k (omega arith));
         stable = ap (refine d) (sym e) ∙ sym c.in_ok-next.ensures ∙ same ∙ e;
       };
@@ -38,17 +39,20 @@ loop-classes-smaller c =
     let yes : c.is_same-is_stable.result ≡ true = c.is_same-is_stable.ensures.1 (e' ∙ sym same ∙ sym e) in
     let no : c.is_same-is_stable.result ≡ false = c.if-is_stable.false in
     absurd (cc)) in
-    subst (λ x. gap c.args.dfa.now.states x < gap c.args.dfa.now.states c.loop-classes.classes) (sym e') (subst (λ y. gap c.args.dfa.now.states (rounds d (suc k)) < gap c.args.dfa.now.states y) (sym e) near)
+    subst (λ x. gap c.args.dfa.now.states x < gap c.args.dfa.now.states c.loop-classes.classes) (sym e')
+    (subst (λ y. gap c.args.dfa.now.states (rounds d (suc k)) < gap c.args.dfa.now.states y) (sym e) near)
 
 pub loop-classes-preserved : goal.loop-classes-preserved
 loop-classes-preserved c =
     let d = automaton_of c.args.dfa.now in
     let k = length c.loop-classes.rows.items in
     let e = c.loop-classes.invariant.classes in
-    let long : length c.push.new.self.items ≡ k + 1 = let e = ap length c.in_ok-push.ensures.items in let l = length-append c.loop-classes.rows.items (c.loop-classes.classes ∷ []) in omega arith in
+    let long : length c.push.new.self.items ≡ k + 1 = let e = ap length c.in_ok-push.ensures.items in let l =
+    length-append c.loop-classes.rows.items (c.loop-classes.classes ∷ []) in omega arith in
     let next : suc k ≡ length c.push.new.self.items = omega arith in
     record {
-      rows = c.in_ok-push.ensures.items ∙ ap (λ rows. rows ++ c.loop-classes.classes ∷ []) c.loop-classes.invariant.rows ∙ ap (λ row. map (rounds d) (range_with_len 0 k) ++ row ∷ []) e
+      rows = c.in_ok-push.ensures.items ∙ ap (λ rows. rows ++ c.loop-classes.classes ∷ []) c.loop-classes.invariant.rows
+          ∙ ap (λ row. map (rounds d) (range_with_len 0 k) ++ row ∷ []) e
           ∙ sym (map-range_with_len_more (rounds d) 0 k k (omega arith)) ∙ ap (λ n. map (rounds d) (range_with_len 0 n)) (sym long);
       classes = c.in_ok-next.ensures ∙ ap (refine d) e ∙ ap (rounds d) next;
     }

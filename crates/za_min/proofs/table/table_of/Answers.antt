@@ -9,12 +9,15 @@ use Rattle.za_min.proofs.table.table_of.Goals.{After-of_table}
 pub accepting_of-requires : goal.accepting_of-requires
 accepting_of-requires c =
     let P : List ℕ → Type 0 = λ xs. All (λ q. q < c.args.dfa.now.states) xs in
-    subst P (sym c.deref.ensures.value) (states-below c.args.dfa.now c.args.classes.now c.requires.classes c.args.found.now.words.items c.args.found.now.states.items c.requires.found)
+    subst P (sym c.deref.ensures.value)
+    (states-below c.args.dfa.now c.args.classes.now c.requires.classes c.args.found.now.words.items c.args.found.now.states.items c.requires.found)
 
 pub of_table-requires : goal.of_table-requires
 of_table-requires c =
-    table-complete c.args.dfa.now c.args.classes.now c.requires.classes c.args.found.now.words.items c.args.found.now.states.items c.requires.found c.in_ok-alphabet.alphabet (c.in_ok-alphabet.ensures ∙ c.alphabet.ensures)
-    c.in_ok-accepting.accepting.items (c.in_ok-accepting.ensures ∙ ap (map (accepts_at c.args.dfa.now)) c.deref.ensures.value) c.in_ok-targets.targets.items c.in_ok-targets.ensures
+    table-complete c.args.dfa.now c.args.classes.now c.requires.classes c.args.found.now.words.items c.args.found.now.states.items c.requires.found
+    c.in_ok-alphabet.alphabet (c.in_ok-alphabet.ensures ∙ c.alphabet.ensures)
+    c.in_ok-accepting.accepting.items (c.in_ok-accepting.ensures ∙ ap (map (accepts_at c.args.dfa.now)) c.deref.ensures.value) c.in_ok-targets.targets.items
+    c.in_ok-targets.ensures
 
 -- what is found is the minimal table
 pub returns : goal.returns
@@ -27,7 +30,11 @@ returns c =
     let answers = c.in_ok-accepting.ensures ∙ ap (map (accepts_at dfa)) c.deref.ensures.value in
     let targets = c.in_ok-targets.targets.items in
     let P : CompleteDfa → Type 0 = λ table. IsMinimised dfa words table in
-    let m = subst P (sym c.of_table.ensures) (minimised dfa classes c.requires.classes words states c.requires.found (table_with c.in_ok-alphabet.alphabet 0 c.in_ok-accepting.accepting.items targets)
-    (table-complete dfa classes c.requires.classes words states c.requires.found c.in_ok-alphabet.alphabet same c.in_ok-accepting.accepting.items answers targets c.in_ok-targets.ensures) same
-    (table-renumbers dfa classes c.requires.classes words states c.requires.found c.in_ok-alphabet.alphabet same c.in_ok-accepting.accepting.items answers targets c.in_ok-targets.ensures)) in
+    let m = subst P (sym c.of_table.ensures)
+    (minimised dfa classes c.requires.classes words states c.requires.found
+    (table_with c.in_ok-alphabet.alphabet 0 c.in_ok-accepting.accepting.items targets)
+    (table-complete dfa classes c.requires.classes words states c.requires.found c.in_ok-alphabet.alphabet same c.in_ok-accepting.accepting.items answers
+    targets c.in_ok-targets.ensures) same
+    (table-renumbers dfa classes c.requires.classes words states c.requires.found c.in_ok-alphabet.alphabet same c.in_ok-accepting.accepting.items answers
+    targets c.in_ok-targets.ensures)) in
     record { minimal = m.minimal; numbered = m.numbered; no_larger = m.no_larger }

@@ -9,11 +9,14 @@ use Rattle.za_min.proofs.table.target.Goals.{After-unwrap}
 pub unwrap-requires : goal.unwrap-requires
 unwrap-requires c =
     let states = c.args.found.now.states.items in
-    let P : List ℕ → Type 0 = λ xs. MatchOption c.place_of.result ((k : ℕ) → k < length xs → slice_index xs k ≢ c.next-next.result) (λ k. (k < length xs) × (slice_index xs k ≡ c.next-next.result)) in
-    let found = target-found (merged_of c.args.dfa.now c.args.classes.now) c.args.found.now.words.items states c.requires.found c.args.k c.args.a.0 c.next-next.result c.requires.place c.requires.letter c.next-next.ensures in
+    let P : List ℕ → Type 0 = λ xs. MatchOption c.place_of.result ((k : ℕ) → k < length xs → slice_index xs k ≢ c.next-next.result)
+    (λ k. (k < length xs) × (slice_index xs k ≡ c.next-next.result)) in
+    let found = target-found (merged_of c.args.dfa.now c.args.classes.now) c.args.found.now.words.items states c.requires.found c.args.k c.args.a.0
+    c.next-next.result c.requires.place c.requires.letter c.next-next.ensures in
     some-place c.place_of.result states c.next-next.result (subst P c.deref.ensures.value c.place_of.ensures) found.0 found.1 found.2
 
-there : (c : After-unwrap) → (c.unwrap.result < length c.args.found.now.states.items) × (slice_index c.args.found.now.states.items c.unwrap.result ≡ c.next-next.result)
+there : (c : After-unwrap) → (c.unwrap.result < length c.args.found.now.states.items)
+    × (slice_index c.args.found.now.states.items c.unwrap.result ≡ c.next-next.result)
 there c =
     let P : List ℕ → Type 0 = λ xs. (c.unwrap.result < length xs) × (slice_index xs c.unwrap.result ≡ c.next-next.result) in
     subst P c.deref.ensures.value (at-place c.place_of.result c.deref.result.now c.next-next.result c.unwrap.result c.place_of.ensures c.unwrap.ensures)
@@ -31,4 +34,5 @@ overflow_cast-result c =
 pub returns : goal.returns
 returns c =
     let t = there c in
-    target-is (merged_of c.args.dfa.now c.args.classes.now) c.args.found.now.words.items c.args.found.now.states.items c.requires.found c.args.k c.args.a.0 c.next-next.result c.unwrap.result c.next-next.ensures t.0 t.1
+    target-is (merged_of c.args.dfa.now c.args.classes.now) c.args.found.now.words.items c.args.found.now.states.items c.requires.found c.args.k c.args.a.0
+    c.next-next.result c.unwrap.result c.next-next.ensures t.0 t.1

@@ -9,7 +9,8 @@ use Rattle.za_min.proofs.table.targets_of.Goals as goal
 
 pub overflow_mul-i-end : goal.overflow_mul-i-end
 overflow_mul-i-end c =
-    let few = words-few c.args.dfa.now c.args.classes.now c.requires.classes c.requires.found.done 0 c.args.found.now.words.items c.args.found.now.states.items c.requires.found.found in
+    let few = words-few c.args.dfa.now c.args.classes.now c.requires.classes c.requires.found.done 0 c.args.found.now.words.items c.args.found.now.states.items
+    c.requires.found.found in
     let most = c.requires.classes.whole.few_states in
     let many : c.len.result ≤ most_states + 1 = omega arith in
     let letters : c.letters-letters.result ≤ most_letters = let w = c.letters-letters.ensures.whole.few_letters in omega arith in
@@ -18,6 +19,8 @@ overflow_mul-i-end c =
 pub loop-i-preserved : goal.loop-i-preserved
 loop-i-preserved c =
     let d = merged_of c.args.dfa.now c.args.classes.now in
-    let letters : c.letters-letters.result ≡ length c.args.dfa.now.alphabet.letters = c.letters-letters.ensures.value ∙ ap (λ x. length x.letters) c.alphabet.ensures in
+    let letters : c.letters-letters.result ≡ length c.args.dfa.now.alphabet.letters = c.letters-letters.ensures.value
+    ∙ ap (λ x. length x.letters) c.alphabet.ensures in
     let P : ℕ → Type 0 = λ m. IsTarget d c.args.found.now.words.items (c.loop-i.i / m) (c.loop-i.i % m) c.target.result in
-    targets-more d c.args.found.now.words.items c.loop-i.i c.target.result c.loop-i.targets.items c.push.new.self.items c.loop-i.invariant (subst P letters c.target.ensures) c.in_ok-push.ensures.items
+    targets-more d c.args.found.now.words.items c.loop-i.i c.target.result c.loop-i.targets.items c.push.new.self.items c.loop-i.invariant
+    (subst P letters c.target.ensures) c.in_ok-push.ensures.items

@@ -17,7 +17,8 @@ use Rattle.za_news.proofs.text.news_text.Goals as goal
 pub circle_after-requires : goal.circle_after-requires
 circle_after-requires c =
     let a = c.alphabet-alphabet.result.now in
-    let woven = (weave_is_maximal (loc_of a) (length a.letters) a.processes (script_of c.args.job.now.job.scripts) c.processes-processes.ensures.whole.located).fits.word in
+    let woven = (weave_is_maximal (loc_of a) (length a.letters) a.processes (script_of c.args.job.now.job.scripts)
+    c.processes-processes.ensures.whole.located).fits.word in
     subst (IsWord (length a.letters)) (sym (c.letters.ensures ∙ c.word.ensures ∙ c.in_ok-woven.ensures.weave.word)) woven
 
 pub returns : goal.returns
@@ -36,6 +37,7 @@ returns c =
     let n = c.processes-processes.result in
     let size : n ≡ alphabet.processes = c.processes-processes.ensures.value ∙ ap (λ (b : DistributedAlphabet). b.processes) same in
     c.in_ok-push_lines.ensures
-    ∙ ap (λ xs. xs ++ text_of (map (λ p. line_of_known (name_of c.names.result.now p) n (known_in circle.known p)) (range_with_len 0 n))) c.new-text.ensures.items
+    ∙ ap (λ xs. xs ++ text_of (map (λ p. line_of_known (name_of c.names.result.now p) n (known_in circle.known p)) (range_with_len 0 n)))
+    c.new-text.ensures.items
     ∙ ap (λ ns. text_of (map (λ p. line_of_known (name_of ns p) n (known_in circle.known p)) (range_with_len 0 n))) c.names.ensures.value
     ∙ lines_are alphabet readings (weave_of alphabet job.scripts) circle h names n size

@@ -47,7 +47,9 @@ loop-rest-preserved c =
     let pushed : c.push_item.new.text.items ≡ c.loop-rest.text.items ++ spaced (item_word letters (run_of_letter (get_or xs 0 0) n) ∷ []) =
     c.in_ok-push_item.ensures ∙ ap (λ w. c.loop-rest.text.items ++ spaced ((if n == 1 then w else w ++ 42 ∷ decimal n) ∷ [])) name in
     record {
-      word = subst (λ ys. (k d : ℕ) → k < length ys → get_or ys k d < length letters) (sym left) (All-drop (λ a. a < length letters) n xs c.loop-rest.invariant.word);
+      word = subst (λ ys. (k d : ℕ) → k < length ys → get_or ys k d < length letters) (sym left)
+          (All-drop (λ a. a < length letters) n xs c.loop-rest.invariant.word);
       text = ap (λ ys. c.push_item.new.text.items ++ spaced (map (item_word letters) (runs_by repeats ys))) left
-          ∙ one_item letters repeats xs c.loop-rest.text.items c.push_item.new.text.items _ n (omega arith) c.item_len-count.ensures.value pushed c.loop-rest.invariant.text;
+          ∙ one_item letters repeats xs c.loop-rest.text.items c.push_item.new.text.items _ n (omega arith) c.item_len-count.ensures.value pushed
+          c.loop-rest.invariant.text;
     }

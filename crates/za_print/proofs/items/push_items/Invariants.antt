@@ -9,7 +9,8 @@ use Rattle.za_print.proofs.items.push_items.Given as goal
 abbrev pub invariant-loop-rest : goal.invariant-loop-rest
 invariant-loop-rest l = record {
   word : IsWord (length l.alphabet.letters) (numbers l.rest);
-  text : l.text.items ++ spaced (map (item_word l.alphabet.letters) (runs_by l.repeats (numbers l.rest))) ≡ l.initial.text.items ++ spaced (map (item_word l.alphabet.letters) (runs_by l.repeats (numbers l.letters)));
+  text : l.text.items ++ spaced (map (item_word l.alphabet.letters) (runs_by l.repeats (numbers l.rest))) ≡ l.initial.text.items
+      ++ spaced (map (item_word l.alphabet.letters) (runs_by l.repeats (numbers l.letters)));
 }
 
 abbrev pub decreases-loop-rest : goal.decreases-loop-rest

@@ -17,7 +17,8 @@ size : (letters : List Letter) → length (numbers letters) ≡ length letters
 size letters = length-map letters (λ (a : Letter). a.0)
 
 -- the front run ends where a letter differs
-ends : (letters : List Letter) (i first : ℕ) → 0 < length letters → i < length letters → first ≡ (get_or letters 0 (record { 0 = 0 })).0 → (get_or letters i (record { 0 = 0 })).0 ≢ first →
+ends : (letters : List Letter) (i first : ℕ) → 0 < length letters → i < length letters → first ≡ (get_or letters 0 (record { 0 = 0 })).0 →
+    (get_or letters i (record { 0 = 0 })).0 ≢ first →
     i + prefix_len (λ b. b == first) (drop i (numbers letters)) ≡ prefix_len (λ b. b == first) (numbers letters) → i ≡ front_run (numbers letters)
 ends letters i first some h is other so_far =
     let xs = numbers letters in
@@ -32,14 +33,16 @@ ends letters i first some h is other so_far =
 
 -- it goes on where it doesn't
 goes : (letters : List Letter) (i first : ℕ) → i < length letters → (get_or letters i (record { 0 = 0 })).0 ≡ first →
-    i + prefix_len (λ b. b == first) (drop i (numbers letters)) ≡ prefix_len (λ b. b == first) (numbers letters) → i + 1 + prefix_len (λ b. b == first) (drop (i + 1) (numbers letters)) ≡ prefix_len (λ b. b == first) (numbers letters)
+    i + prefix_len (λ b. b == first) (drop i (numbers letters)) ≡ prefix_len (λ b. b == first) (numbers letters) →
+    i + 1 + prefix_len (λ b. b == first) (drop (i + 1) (numbers letters)) ≡ prefix_len (λ b. b == first) (numbers letters)
 goes letters i first h same so_far =
     let xs = numbers letters in
     let long = size letters in
     let at = number_at letters i h in
     let yes : (get_or xs i 0 == first) ≡ true = grind (arith, nat_tests) in
     let on = run_on (λ b. b == first) xs i (omega arith) in
-    let more : prefix_len (λ b. b == first) (drop i xs) ≡ 1 + prefix_len (λ b. b == first) (drop (i + 1) xs) = on ∙ ap (λ t. cond t (1 + prefix_len (λ b. b == first) (drop (i + 1) xs)) 0) yes in
+    let more : prefix_len (λ b. b == first) (drop i xs) ≡ 1 + prefix_len (λ b. b == first) (drop (i + 1) xs) = on
+    ∙ ap (λ t. cond t (1 + prefix_len (λ b. b == first) (drop (i + 1) xs)) 0) yes in
     omega arith
 
 pub loop-i-preserved : goal.loop-i-preserved

@@ -23,4 +23,5 @@ pub returns : goal.returns
 returns c =
     let ls = c.args.alphabet.now.letters in
     let all : c.loop-a.a ≡ length ls = omega arith in
-    c.loop-a.invariant ∙ ap (λ n. c.args.text.now.items ++ text_of (map (letter_line c.args.names.now) (take n ls))) all ∙ ap (λ xs. c.args.text.now.items ++ text_of (map (letter_line c.args.names.now) xs)) (take-length ls)
+    c.loop-a.invariant ∙ ap (λ n. c.args.text.now.items ++ text_of (map (letter_line c.args.names.now) (take n ls))) all
+    ∙ ap (λ xs. c.args.text.now.items ++ text_of (map (letter_line c.args.names.now) xs)) (take-length ls)

@@ -9,7 +9,8 @@ use Rattle.za_write.proofs.Lines.{one-more, spaced-more}
 use Rattle.za_print.proofs.print.push_processes.Goals as goal
 
 pub loop-p-init : goal.loop-p-init
-loop-p-init c = sym (ap (λ ps. c.args.text.now.items ++ spaced (map (name_of c.args.names.now) ps)) (members_below-zero c.args.processes) ∙ append-nil c.args.text.now.items)
+loop-p-init c = sym (ap (λ ps. c.args.text.now.items ++ spaced (map (name_of c.args.names.now) ps)) (members_below-zero c.args.processes)
+    ∙ append-nil c.args.text.now.items)
 
 pub loop-p-preserved : goal.loop-p-preserved
 loop-p-preserved c =
@@ -18,7 +19,8 @@ loop-p-preserved c =
     let p = c.loop-p.p in
     one-more _ _ _ _ _ _ c.loop-p.invariant
     (c.in_ok-push_name_if.ensures ∙ ap (λ b. c.loop-p.text.items ++ cond b (spaced (name_of names p ∷ [])) []) c.has.ensures)
-    (ap (λ ps. spaced (map (name_of c.args.names.now) ps)) (members_below-more s p (omega arith)) ∙ spaced-more (name_of names) (members_below s p) (has (members s) p) p)
+    (ap (λ ps. spaced (map (name_of c.args.names.now) ps)) (members_below-more s p (omega arith))
+    ∙ spaced-more (name_of names) (members_below s p) (has (members s) p) p)
 
 pub returns : goal.returns
 returns c =

@@ -5,4 +5,5 @@ use Rattle.za_print.proofs.print.push_rows.Goals as goal
 
 pub loop-cell-preserved : goal.loop-cell-preserved
 loop-cell-preserved c =
-    one-more _ _ _ _ _ _ c.loop-cell.invariant c.in_ok-push_cell.ensures (text_of-some-more (row_line c.args.lang.now.table.alphabet.letters) (row_of_cell c.args.lang.now.table) c.loop-cell.cell)
+    one-more _ _ _ _ _ _ c.loop-cell.invariant c.in_ok-push_cell.ensures
+    (text_of-some-more (row_line c.args.lang.now.table.alphabet.letters) (row_of_cell c.args.lang.now.table) c.loop-cell.cell)

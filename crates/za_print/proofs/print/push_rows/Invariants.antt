@@ -6,4 +6,5 @@ use Rattle.za_print.proofs.print.push_rows.Given as goal
 
 -- the lines of the cells so far
 abbrev pub invariant-loop-cell : goal.invariant-loop-cell
-invariant-loop-cell l = l.text.items ≡ l.initial.text.items ++ text_of (map (row_line l.lang.table.alphabet.letters) (filter_map (row_of_cell l.lang.table) (range_with_len 0 l.cell)))
+invariant-loop-cell l = l.text.items ≡ l.initial.text.items
+    ++ text_of (map (row_line l.lang.table.alphabet.letters) (filter_map (row_of_cell l.lang.table) (range_with_len 0 l.cell)))

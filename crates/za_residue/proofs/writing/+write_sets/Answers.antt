@@ -24,14 +24,16 @@ states t c = c.states-states.ensures.value ∙ ap (λ (d : CompleteDfa). d.state
 pub write_composed-requires-clause-some : goal.write_composed-requires-clause-some
 write_composed-requires-clause-some t c =
     let b = (goal.at.write_composed-requires-clause-some t c).After-states-states in
-    some-inputs c.args.event.now.closed.now (whole t b) c.dfa-dfa.ensures.diamonds c.args.event.now.a.0 c.requires.letter c.args.event.now.inputs.now c.args.event.now.masks.now c.requires.given.0
+    some-inputs c.args.event.now.closed.now (whole t b) c.dfa-dfa.ensures.diamonds c.args.event.now.a.0 c.requires.letter c.args.event.now.inputs.now
+    c.args.event.now.masks.now c.requires.given.0
     c.requires.given.1
 
 pub write_composed-requires-clause-taken : goal.write_composed-requires-clause-taken
 write_composed-requires-clause-taken t c = λ q l.
     let b = (goal.at.write_composed-requires-clause-taken t c).After-states-states in
     let same = states t b in
-    let one = taken-after c.args.event.now.closed.now (whole t b) c.dfa-dfa.ensures.diamonds c.args.event.now.a.0 c.requires.letter c.args.event.now.inputs.now c.args.event.now.masks.now
+    let one = taken-after c.args.event.now.closed.now (whole t b) c.dfa-dfa.ensures.diamonds c.args.event.now.a.0 c.requires.letter c.args.event.now.inputs.now
+    c.args.event.now.masks.now
     c.requires.given.0 c.requires.given.1
     (has (members c.args.set)) c.args.omitted.now c.requires.omitted q (omega arith) in (one.0, one.1 ∙ sym same)
 
@@ -51,9 +53,11 @@ returns-then-processes-eq0 t c =
     let P : ℕ → Type 0 = λ k. AreWritten d c.args.event.now.a.0 c.args.event.now.inputs.now c.args.event.now.masks.now set k c.follow.new.block in
     let Q : ℕ → Type 0 = λ v. v < d.states in
     subst P (sym one)
-    (written-one d (whole t b) c.dfa-dfa.ensures.diamonds c.args.event.now.a.0 c.requires.letter c.args.event.now.inputs.now c.args.event.now.masks.now set c.args.omitted.now
+    (written-one d (whole t b) c.dfa-dfa.ensures.diamonds c.args.event.now.a.0 c.requires.letter c.args.event.now.inputs.now c.args.event.now.masks.now set
+    c.args.omitted.now
     c.follow.new.block
-    (apart-of d (whole t b) c.dfa-dfa.ensures.diamonds c.args.event.now.a.0 c.requires.letter c.args.event.now.inputs.now c.args.event.now.masks.now c.args.set c.requires.apart)
+    (apart-of d (whole t b) c.dfa-dfa.ensures.diamonds c.args.event.now.a.0 c.requires.letter c.args.event.now.inputs.now c.args.event.now.masks.now c.args.set
+    c.requires.apart)
     c.requires.omitted
     (λ q l. at q l ∙ c.requires.steps.steps (slice_index c.write_composed.new.block q) (within q l)
     ∙ ap (λ v. step_of d v c.args.event.now.a.0) (c.write_composed.ensures.written q (omega arith)))
@@ -77,8 +81,10 @@ long t c =
     let front = c.split_at_mut-low.ensures.front_len in
     let back = c.split_at_mut-low.ensures.back_len in
     let kept = c.write_sets.auto.block in
-    let same : c.states-states.result ≡ c.args.event.now.closed.now.states = c.states-states.ensures.value ∙ ap (λ (d : CompleteDfa). d.states) c.dfa-dfa.ensures.value in
-    let half : c.set_count.result * c.states-states.result ≡ 2 ^ (c.args.processes - 1) * c.args.event.now.closed.now.states = ap (λ k. c.set_count.result * k) same
+    let same : c.states-states.result ≡ c.args.event.now.closed.now.states = c.states-states.ensures.value
+    ∙ ap (λ (d : CompleteDfa). d.states) c.dfa-dfa.ensures.value in
+    let half : c.set_count.result * c.states-states.result ≡ 2 ^ (c.args.processes - 1) * c.args.event.now.closed.now.states =
+    ap (λ k. c.set_count.result * k) same
     ∙ ap (λ m. m * c.args.event.now.closed.now.states) c.set_count.ensures.value in
     (omega arith, omega arith)
 
@@ -93,16 +99,20 @@ part t c =
 -- both halves make the block
 both : (t : ℕ) (c : After-write_sets t) (high : List ℕ) →
     AreWritten c.args.event.now.closed.now c.args.event.now.a.0 c.args.event.now.inputs.now c.args.event.now.masks.now
-    (more c.args.event.now.closed.now (whole t (goal.at.After-write_sets t c).After-states-states) c.dfa-dfa.ensures.diamonds c.args.event.now.a.0 c.requires.letter
+    (more c.args.event.now.closed.now (whole t (goal.at.After-write_sets t c).After-states-states) c.dfa-dfa.ensures.diamonds c.args.event.now.a.0
+    c.requires.letter
     c.args.event.now.inputs.now c.args.event.now.masks.now (has (members c.args.set)) (c.args.processes - 1)) (2 ^ (c.args.processes - 1)) high →
-    AreWritten c.args.event.now.closed.now c.args.event.now.a.0 c.args.event.now.inputs.now c.args.event.now.masks.now (has (members c.args.set)) (2 ^ c.args.processes)
+    AreWritten c.args.event.now.closed.now c.args.event.now.a.0 c.args.event.now.inputs.now c.args.event.now.masks.now (has (members c.args.set))
+    (2 ^ c.args.processes)
     (c.write_sets.new.block ++ high)
 both t c high h =
     let d = c.args.event.now.closed.now in
     let set : ℕ → Bool = has (members c.args.set) in
-    let P : ℕ → Type 0 = λ p. AreWritten d c.args.event.now.a.0 c.args.event.now.inputs.now c.args.event.now.masks.now set (2 ^ p) (c.write_sets.new.block ++ high) in
+    let P : ℕ → Type 0 = λ p. AreWritten d c.args.event.now.a.0 c.args.event.now.inputs.now c.args.event.now.masks.now set (2 ^ p)
+    (c.write_sets.new.block ++ high) in
     subst P (sym (one-more c.args.processes c.if-processes-eq0.false))
-    (written-halves d (whole t (goal.at.After-write_sets t c).After-states-states) c.dfa-dfa.ensures.diamonds c.args.event.now.a.0 c.requires.letter c.args.event.now.inputs.now
+    (written-halves d (whole t (goal.at.After-write_sets t c).After-states-states) c.dfa-dfa.ensures.diamonds c.args.event.now.a.0 c.requires.letter
+    c.args.event.now.inputs.now
     c.args.event.now.masks.now set (c.args.processes - 1)
     c.write_sets.new.block high (long t c).0 c.write_sets.ensures h)
 
@@ -117,7 +127,8 @@ returns-then-has t c =
     let b = (goal.at.returns-then-has t c).After-states-states in
     let same = states t b in
     both t (goal.at.returns-then-has t c).After-write_sets c.write_identities.new.block
-    (written-reset d (whole t b) c.dfa-dfa.ensures.diamonds c.args.event.now.a.0 c.requires.letter c.args.event.now.inputs.now c.args.event.now.masks.now (has (members c.args.set))
+    (written-reset d (whole t b) c.dfa-dfa.ensures.diamonds c.args.event.now.a.0 c.requires.letter c.args.event.now.inputs.now c.args.event.now.masks.now
+    (has (members c.args.set))
     (c.args.processes - 1) c.write_identities.new.block
     (sym (part t (goal.at.returns-then-has t c).After-has) ∙ c.if-has.true)
     (λ m q lm lq. ap (λ k. slice_index c.write_identities.new.block (m * k + q)) (sym same) ∙ c.write_identities.ensures m q lm (omega arith)))
@@ -135,10 +146,12 @@ returns-then-join_sets t c =
     let ne = c.if-processes-eq0.false in
     let le = c.requires.processes in
     let P : List ℕ → Type 0 = λ high. AreWritten d c.args.event.now.a.0 c.args.event.now.inputs.now c.args.event.now.masks.now
-    (more d (whole t b) c.dfa-dfa.ensures.diamonds c.args.event.now.a.0 c.requires.letter c.args.event.now.inputs.now c.args.event.now.masks.now set r) (2 ^ r) high in
+    (more d (whole t b) c.dfa-dfa.ensures.diamonds c.args.event.now.a.0 c.requires.letter c.args.event.now.inputs.now c.args.event.now.masks.now set r)
+    (2 ^ r) high in
     both t (goal.at.returns-then-join_sets t c).After-write_sets c.copy_from_slice.new.self
     (subst P (sym c.copy_from_slice.ensures.after)
-    (written-copied d (whole t b) c.dfa-dfa.ensures.diamonds c.args.event.now.a.0 c.requires.letter c.args.event.now.inputs.now c.args.event.now.masks.now set r low (omega arith)
+    (written-copied d (whole t b) c.dfa-dfa.ensures.diamonds c.args.event.now.a.0 c.requires.letter c.args.event.now.inputs.now c.args.event.now.masks.now set r
+    low (omega arith)
     (sym (part t (goal.at.returns-then-join_sets t c).After-has) ∙ c.if-has.false)
     (λ i y l under.
     sym (c.requires.omitted.members i y l)
@@ -164,11 +177,13 @@ write_sets-requires-2 t c =
             (
               omega arith,
               (
-                apart-more d (whole t b) c.dfa-dfa.ensures.diamonds c.args.event.now.a.0 c.requires.letter c.args.event.now.inputs.now c.args.event.now.masks.now c.args.set c.with.result r
+                apart-more d (whole t b) c.dfa-dfa.ensures.diamonds c.args.event.now.a.0 c.requires.letter c.args.event.now.inputs.now
+                    c.args.event.now.masks.now c.args.set c.with.result r
                     c.requires.apart
                     (sym (part t (goal.at.write_sets-requires-2 t c).After-has) ∙ c.if-has.false) c.with.ensures.joined,
                 (
-                  more-omitted c.args.event.now.masks.now d.alphabet.processes (has (members c.args.set)) (has (members c.with.result)) r (length c.args.event.now.inputs.now)
+                  more-omitted c.args.event.now.masks.now d.alphabet.processes (has (members c.args.set)) (has (members c.with.result)) r
+                      (length c.args.event.now.inputs.now)
                       c.args.omitted.now c.join_sets.new.joined (omega arith)
                       c.with.ensures.joined c.requires.omitted c.join_sets.ensures.room c.join_sets.ensures.small
                       c.join_sets.ensures.members,

@@ -1,4 +1,5 @@
-use Rattle.std.proofs.Common.{◌≡◌, ℕ, zero, suc, ◌+◌, ◌*◌, ◌^◌, ◌<◌, ◌≤◌, ◌++◌, length, take, drop, get_or, ap, ◌∙◌, arith, length-append, length-take, length-drop}
+use Rattle.std.proofs.Common.{◌≡◌, ℕ, zero, suc, ◌+◌, ◌*◌, ◌^◌, ◌<◌, ◌≤◌, ◌++◌, length, take, drop, get_or, ap, ◌∙◌, arith, length-append, length-take}
+use Rattle.std.proofs.Common.{length-drop}
 use Rattle.std.proofs.Math.Nat.{pow-le-pow_right}
 use Rattle.std.proofs.lemmas.Nat.{mul-add-lt, mul-le, pow_pos}
 use Rattle.std.proofs.lemmas.List.{get_or_append_left, get_or-take, take-take}
@@ -79,7 +80,8 @@ loop-p-preserved c =
     let count = ap length both in
     let more = length-append low low in
     let in-low : (m q : ℕ) → m < 2 ^ p → q < k → get_or low (m * k + q) 0 ≡ q =
-    λ m q lm lq. get_or-take size block (m * k + q) 0 (let l = mul-add-lt m k q (2 ^ p) lm lq in let e = h.0 in omega arith) ∙ c.loop-p.invariant.done m q lm lq in
+    λ m q lm lq. get_or-take size block (m * k + q) 0 (let l = mul-add-lt m k q (2 ^ p) lm lq in let e = h.0 in omega arith)
+    ∙ c.loop-p.invariant.done m q lm lq in
     record {
       size = let a = length-append c.double.new.block rest in let d = length-drop (size + size) block in let s = c.loop-p.invariant.size in let f = h.1 in
           let e = h.0 in omega arith;

@@ -3,7 +3,7 @@ use Rattle.std.proofs.lemmas.List.Elements.{All-push, All-same}
 use Rattle.za_alpha.specs.Words.{has}
 use Rattle.za_hall.specs.Halls.{DeskState}
 use Rattle.za_hall.specs.Halls.{IsOf}
-use Rattle.za_runner.specs.Private.Lists.{numbers, promised}
+use Rattle.za_runner.specs.Private.Lists.{desk_numbers, promised}
 use Rattle.za_runner.proofs.Moves.{of_same, has_case, has_last, kept, split_all}
 use Rattle.za_runner.proofs.running.join_all.Goals as goal
 
@@ -16,7 +16,7 @@ loop-handle-preserved g c = let i = c.loop-handle.invariant in let h = c.in-Some
       (let a = ap length items in let b = length-append c.pop.new.self.items (h ∷ []) in let x = ap length pushed in let y =
           length-append c.loop-handle.mine.items (w ∷ []) in let k = c.push_reserved.ensures.capacity in let z = i.2 in omega arith),
       λ p e. ⊎_elim
-          (λ k. ⊎_elim inl (λ q. inr (subst (λ ds. has (numbers ds) p ≡ true) (sym pushed)
+          (λ k. ⊎_elim inl (λ q. inr (subst (λ ds. has (desk_numbers ds) p ≡ true) (sym pushed)
           (has_last (λ (x : DeskState). x.number) c.loop-handle.mine.items w p (s.number ∙ q))))
           (has_case promised c.pop.new.self.items h p (subst (λ hs. has (map promised hs) p ≡ true) items k)))
           (λ k. inr (kept (λ (x : DeskState). x.number) c.loop-handle.mine.items w p c.loop-handle.mine.items c.push_reserved.new.self.items w pushed k))

@@ -37,7 +37,8 @@ loop-desk-preserved g c = let i = c.loop-desk.invariant in let d : DeskState = c
       i.2,
       λ p e. ⊎_elim
           (λ k. ⊎_elim inl (λ q. inr (inr q)) (moved (λ
-          (x : DeskState). x.number) c.pop.new.self.items d p c.loop-desk.desks.items items c.loop-desk.mine.items c.push_reserved-in-Err.new.self.items w pushed s.number k))
+          (x : DeskState). x.number) c.pop.new.self.items d p c.loop-desk.desks.items items c.loop-desk.mine.items c.push_reserved-in-Err.new.self.items w
+          pushed s.number k))
           (⊎_elim (λ k. inr (inl k)) (λ k. inr (inr (kept (λ
           (x : DeskState). x.number) c.pop.new.self.items d p c.loop-desk.mine.items c.push_reserved-in-Err.new.self.items w pushed k))))
           (i.3 p e),

@@ -1,7 +1,8 @@
 use Rattle.std.proofs.Common.{◌≡◌, vec_capacity, length}
-use Rattle.za_runner.specs.Private.Lists.{numbers, AreOf}
+use Rattle.za_runner.specs.Private.Lists.{desk_numbers, AreOf}
 use Rattle.za_runner.proofs.steps.step_all.Given as goal
 
 abbrev pub invariant-loop : goal.invariant-loop
-invariant-loop g l = AreOf l.hall l.desks.items × (numbers l.desks.items ≡ numbers l.fn.desks.items) × (vec_capacity l.desks ≡ vec_capacity l.fn.desks) ×
+invariant-loop g l = AreOf l.hall l.desks.items × (desk_numbers l.desks.items ≡ desk_numbers l.fn.desks.items)
+    × (vec_capacity l.desks ≡ vec_capacity l.fn.desks) ×
     (length l.desks.items ≡ length l.fn.desks.items)

@@ -9,14 +9,17 @@ use Rattle.za_shared.proofs.holders.shelve.Goals as goal
 pub same_marked-requires : goal.same_marked-requires
 same_marked-requires c = λ key other p got.
     let s = c.args.shelf.now in
-    c.requires.marks key other (passes-live s _ key c.live-live.ensures.counted p) got ∙ ap mark (passes-value s c.args.local key p) ∙ sym c.mark_of-mark.ensures
+    c.requires.marks key other (passes-live s _ key c.live-live.ensures.counted p) got ∙ ap mark (passes-value s c.args.local key p)
+    ∙ sym c.mark_of-mark.ensures
 
 pub returns-in-Some-clause-shelved : goal.returns-in-Some-clause-shelved
 returns-in-Some-clause-shelved c =
     let s = c.args.shelf.now in
     let key : ℕ = c.in-Some.key.0 in
-    subst (λ (ls : List LocalState). HasShelved s c.hold.new.self c.args.spares.now.items ls c.args.local c.args.holders key) (sym c.push_reserved.ensures.items)
-    (shelved-again s c.hold.new.self c.args.spares.now.items c.args.local c.args.holders key c.hold.ensures.changes c.hold.ensures.live c.in-Some.ensures.counted
+    subst (λ (ls : List LocalState). HasShelved s c.hold.new.self c.args.spares.now.items ls c.args.local c.args.holders key)
+    (sym c.push_reserved.ensures.items)
+    (shelved-again s c.hold.new.self c.args.spares.now.items c.args.local c.args.holders key c.hold.ensures.changes c.hold.ensures.live
+    c.in-Some.ensures.counted
     c.in-Some.ensures.least.0)
 
 pub returns-clause-marks : goal.returns-clause-marks

@@ -1,4 +1,5 @@
-use Rattle.std.proofs.Common.{◌≡◌, ℕ, ◌+◌, ◌≤◌, ◌<◌, ◌==◌, [], ◌∷◌, ◌++◌, List, map, length, slice_index, sym, ap, subst, ◌∙◌, arith, refl, true, Vec, Global, vec_capacity}
+use Rattle.std.proofs.Common.{◌≡◌, ℕ, ◌+◌, ◌≤◌, ◌<◌, ◌==◌, [], ◌∷◌, ◌++◌, List, map, length, slice_index, sym, ap, subst, ◌∙◌, arith, refl, true, Vec, Global}
+use Rattle.std.proofs.Common.{vec_capacity}
 use Rattle.std.specs.Prelude.{count_by}
 use Rattle.std.proofs.lemmas.List.{length-map}
 use Rattle.za_alpha.specs.declared.procs.Procs.{Procs}
@@ -24,7 +25,8 @@ pub loop-p-init : goal.loop-p-init
 loop-p-init c =
     let f : ℕ → LocalState = λ p. value c.args.shelf.now (slice_index c.args.keys.now p) in
     record {
-      fewer = fewer-none c.args.shelf.now c.args.spares.now.items (held_by c.args.keys.now (members_below c.args.processes 0)) (held-none c.args.keys.now c.args.processes);
+      fewer = fewer-none c.args.shelf.now c.args.spares.now.items (held_by c.args.keys.now (members_below c.args.processes 0))
+          (held-none c.args.keys.now c.args.processes);
       capacity = refl;
       bench =
           c.clear.ensures ∙ ap (with c.args.bench.now) (sym (ap (map f) (members_below-zero c.args.processes)))
@@ -46,7 +48,8 @@ live : (c : Then-has) → 0 < count c.loop-p.shelf (slice_index c.args.keys.now 
 live c =
     let t = c.loop-p-test.true in
     let few = c.requires.few in
-    still-live c.args.keys.now c.args.processes c.loop-p.p (omega arith) (omega arith) (sym c.has.ensures ∙ c.if-has.true) c.loop-p.invariant.fewer c.requires.held
+    still-live c.args.keys.now c.args.processes c.loop-p.p (omega arith) (omega arith) (sym c.has.ensures ∙ c.if-has.true) c.loop-p.invariant.fewer
+    c.requires.held
 
 pub let_go_onto-requires-clause-live : goal.let_go_onto-requires-clause-live
 let_go_onto-requires-clause-live c = live (goal.at.let_go_onto-requires-clause-live c).Then-has
@@ -66,7 +69,8 @@ pub let_go_onto-requires-clause-shape : goal.let_go_onto-requires-clause-shape
 let_go_onto-requires-clause-shape c =
     let k = slice_index c.args.keys.now c.loop-p.p in
     let some = live (goal.at.let_go_onto-requires-clause-shape c).Then-has in
-    let same = c.loop-p.invariant.bench ∙ ap (λ (b : LocalStates). with b (values_at c.args.shelf.now c.args.keys.now (members_below c.args.processes c.loop-p.p))) c.clear.ensures in
+    let same = c.loop-p.invariant.bench ∙ ap
+    (λ (b : LocalStates). with b (values_at c.args.shelf.now c.args.keys.now (members_below c.args.processes c.loop-p.p))) c.clear.ensures in
     subst (λ (b : LocalStates). HasShape b.processes b.states (value c.loop-p.shelf k)) (sym same)
     (subst (HasShape c.args.bench.now.processes c.args.bench.now.states) (sym (c.loop-p.invariant.fewer.values k some))
     (c.requires.shaped k (let a = c.loop-p.invariant.fewer.counts k in omega arith)))
@@ -86,24 +90,32 @@ loop-p-preserved c =
           let here = sym c.has.ensures ∙ w.if-has.true in
           record {
             fewer =
-                subst (λ (x : Shelf LocalState). HaveFewer c.args.shelf.now x before c.if-has.spares.items (held_by keys (members_below s (p + 1)))) (sym w.shelf-is)
-                (subst (λ (v : Vec LocalState Global). HaveFewer c.args.shelf.now w.let_go_onto.new.shelf before v.items (held_by keys (members_below s (p + 1)))) (sym w.spares-is)
+                subst (λ (x : Shelf LocalState). HaveFewer c.args.shelf.now x before c.if-has.spares.items (held_by keys (members_below s (p + 1))))
+                (sym w.shelf-is)
+                (subst (λ (v : Vec LocalState Global). HaveFewer c.args.shelf.now w.let_go_onto.new.shelf before v.items
+                (held_by keys (members_below s (p + 1)))) (sym w.spares-is)
                 (fewer-then c.args.shelf.now c.loop-p.shelf w.let_go_onto.new.shelf before c.loop-p.spares.items w.let_go_onto.new.spares.items
                 (held_by keys (members_below s p)) (one (slice_index keys p)) (held_by keys (members_below s (p + 1)))
                 c.loop-p.invariant.fewer w.let_go_onto.ensures.fewer (λ k. held-in keys s k p (omega arith) here)));
             capacity = ap (λ (v : Vec LocalState Global). vec_capacity v) w.spares-is ∙ w.let_go_onto.ensures.capacity ∙ c.loop-p.invariant.capacity;
             bench =
-                w.bench-is ∙ w.let_go_onto.ensures.bench ∙ ap (λ (k : LocalStates). with k (k.locals ++ value c.loop-p.shelf (slice_index keys p) ∷ [])) c.loop-p.invariant.bench
-                ∙ ap (λ (v : LocalState). with b (map f (members_below s p) ++ v ∷ [])) (c.loop-p.invariant.fewer.values (slice_index keys p) (still-live keys s p (omega arith) (omega arith) here c.loop-p.invariant.fewer c.requires.held))
+                w.bench-is ∙ w.let_go_onto.ensures.bench ∙ ap (λ (k : LocalStates). with k (k.locals ++ value c.loop-p.shelf (slice_index keys p) ∷ []))
+                c.loop-p.invariant.bench
+                ∙ ap (λ (v : LocalState). with b (map f (members_below s p) ++ v ∷ []))
+                (c.loop-p.invariant.fewer.values (slice_index keys p)
+                (still-live keys s p (omega arith) (omega arith) here c.loop-p.invariant.fewer c.requires.held))
                 ∙ ap (with b) (sym (map-members-in f s p (omega arith) here));
           }
       | else-has w ↦
           let out = sym c.has.ensures ∙ w.if-has.false in
           record {
             fewer =
-                subst (λ (x : Shelf LocalState). HaveFewer c.args.shelf.now x before c.if-has.spares.items (held_by keys (members_below s (p + 1)))) (sym w.shelf-is)
-                (subst (λ (v : Vec LocalState Global). HaveFewer c.args.shelf.now c.loop-p.shelf before v.items (held_by keys (members_below s (p + 1)))) (sym w.spares-is)
-                (fewer-same c.args.shelf.now c.loop-p.shelf before c.loop-p.spares.items (held_by keys (members_below s p)) (held_by keys (members_below s (p + 1)))
+                subst (λ (x : Shelf LocalState). HaveFewer c.args.shelf.now x before c.if-has.spares.items (held_by keys (members_below s (p + 1))))
+                (sym w.shelf-is)
+                (subst (λ (v : Vec LocalState Global). HaveFewer c.args.shelf.now c.loop-p.shelf before v.items (held_by keys (members_below s (p + 1))))
+                (sym w.spares-is)
+                (fewer-same c.args.shelf.now c.loop-p.shelf before c.loop-p.spares.items (held_by keys (members_below s p))
+                (held_by keys (members_below s (p + 1)))
                 c.loop-p.invariant.fewer (λ k. held-out keys s k p (omega arith) out)));
             capacity = ap (λ (v : Vec LocalState Global). vec_capacity v) w.spares-is ∙ c.loop-p.invariant.capacity;
             bench = w.bench-is ∙ c.loop-p.invariant.bench ∙ ap (with b) (sym (map-members-out f s p (omega arith) out));

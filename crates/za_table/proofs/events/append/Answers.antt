@@ -11,7 +11,8 @@ use Rattle.za_table.proofs.events.append.Goals as goal
 use Rattle.za_table.proofs.events.append.Goals.{After-loc-participants}
 
 own : (c : After-loc-participants) → members c.loc-participants.result ≡ loc_of c.args.shared.now.dfa.alphabet c.args.a.0
-own c = ap members (c.loc-participants.ensures ∙ ap (λ (al : DistributedAlphabet). procs_at al.letters c.args.a.0) (c.alphabet.ensures ∙ ap (λ (d : CompleteDfa). d.alphabet) (c.dfa.ensures.value ∙ c.closed.ensures.value)))
+own c = ap members (c.loc-participants.ensures ∙ ap (λ (al : DistributedAlphabet). procs_at al.letters c.args.a.0)
+    (c.alphabet.ensures ∙ ap (λ (d : CompleteDfa). d.alphabet) (c.dfa.ensures.value ∙ c.closed.ensures.value)))
 
 pub returns-clause-appended : goal.returns-clause-appended
 returns-clause-appended c =

@@ -45,7 +45,8 @@ returns c = λ q.
     let n : ℕ = bit_and s (bit_not w16 (1 * 2 ^ p % 65536)) in
     has-members (record { 0 = n }) q ∙ elim (cases_Bool (nat_lt q 16)) [
       | inl t ↦
-          ap (λ b. b && nat_lt q 16) (cleared s p q c.requires (let low : q < 16 = grind (arith, nat_tests) in low)) ∙ swapped (eqb (bit_at s q) 1) (not (eqb q p)) (nat_lt q 16)
+          ap (λ b. b && nat_lt q 16) (cleared s p q c.requires (let low : q < 16 = grind (arith, nat_tests) in low)) ∙ swapped (eqb (bit_at s q) 1)
+          (not (eqb q p)) (nat_lt q 16)
           ∙ ap (λ b. b && not (eqb q p)) (sym (has-members c.args.set q))
       | inr f ↦
           ap (λ b. eqb (bit_at n q) 1 && b) f ∙ and-false (eqb (bit_at n q) 1)

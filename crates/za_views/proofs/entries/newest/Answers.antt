@@ -16,7 +16,8 @@ loop-s-preserved c =
           subst (λ b. IsNewest ps (c.loop-s.s + 1) at b) (sym (w.best-is ∙ w.later-best.ensures ∙ ap (later c.loop-s.best) known_is))
           (newest-met ps c.loop-s.s at c.loop-s.best c.loop-s.invariant (sym c.has.ensures ∙ w.if-has.true))
       | else-has w ↦
-          subst (λ b. IsNewest ps (c.loop-s.s + 1) at b) (sym w.best-is) (newest-apart ps c.loop-s.s at c.loop-s.best c.loop-s.invariant (sym c.has.ensures ∙ w.if-has.false))
+          subst (λ b. IsNewest ps (c.loop-s.s + 1) at b) (sym w.best-is)
+          (newest-apart ps c.loop-s.s at c.loop-s.best c.loop-s.invariant (sym c.has.ensures ∙ w.if-has.false))
     ]
 
 pub returns : goal.returns

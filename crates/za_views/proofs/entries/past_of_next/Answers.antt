@@ -8,7 +8,8 @@ pub loop-q-preserved : goal.loop-q-preserved
 loop-q-preserved c =
     let q : ℕ = c.loop-q.q in
     let past : List (Option ℕ) = c.loop-q.past in
-    let holds : ℕ → Option ℕ → Type 0 = λ r o. IsJoined (members c.args.takes) c.args.processes (length c.args.events.now) r (known_by c.args.events.now c.args.own.now r) o in
+    let holds : ℕ → Option ℕ → Type 0 =
+    λ r o. IsJoined (members c.args.takes) c.args.processes (length c.args.events.now) r (known_by c.args.events.now c.args.own.now r) o in
     record {
       long = length-set past q c.joined.result ∙ c.loop-q.invariant.long;
       made =

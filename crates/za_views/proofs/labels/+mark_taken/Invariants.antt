@@ -11,4 +11,5 @@ decreases-mark_taken l = l.steps
 abbrev pub invariant-loop-q : goal.invariant-loop-q
 invariant-loop-q l =
     (k : ℕ) → k < length l.taken →
-    slice_index_or l.taken k false ≡ (slice_index_or l.fn.taken k false || list_any (λ q. is_label_taken l.events l.processes l.letter.0 k (l.steps - 1) (known l.events l.e q)) (range_with_len 0 l.q))
+    slice_index_or l.taken k false ≡ (slice_index_or l.fn.taken k false || list_any
+    (λ q. is_label_taken l.events l.processes l.letter.0 k (l.steps - 1) (known l.events l.e q)) (range_with_len 0 l.q))

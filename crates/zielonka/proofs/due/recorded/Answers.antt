@@ -31,5 +31,7 @@ returns-clause-made c =
     let answer = c.answer-answer.result in
     c.in_ok-text.ensures
     ∙ ap (λ (a : DistributedAlphabet). printed_claim a (record { answer = answer; events = events })) (c.alphabet.ensures ∙ sym c.requires.run.minimal.alphabet)
-    ∙ ap (λ (es : List Event). printed_claim run.given.dfa.alphabet (record { answer = answer; events = es })) (c.as_slice.ensures.value ∙ c.in_ok-events.ensures)
-    ∙ ap (λ (a : Answer). printed_claim run.given.dfa.alphabet (record { answer = a; events = fired_events run.given.dfa.alphabet run.state.journal })) c.answer-answer.ensures.value
+    ∙ ap (λ (es : List Event). printed_claim run.given.dfa.alphabet (record { answer = answer; events = es }))
+    (c.as_slice.ensures.value ∙ c.in_ok-events.ensures)
+    ∙ ap (λ (a : Answer). printed_claim run.given.dfa.alphabet (record { answer = a; events = fired_events run.given.dfa.alphabet run.state.journal }))
+    c.answer-answer.ensures.value

@@ -14,7 +14,8 @@ returns-clause-run c =
     let r = c.solo.result in
     let on : Given = record { dfa = c.in_ok-closed.closed; scripts = c.in_ok-scripts.scripts } in
     let is : on ≡ record { dfa = d; scripts = job.scripts } =
-    ap (λ (k : CompleteDfa). record { dfa = k; scripts = c.in_ok-scripts.scripts }) c.in_ok-closed.ensures ∙ ap (λ s. record { dfa = d; scripts = s }) c.in_ok-scripts.ensures in
+    ap (λ (k : CompleteDfa). record { dfa = k; scripts = c.in_ok-scripts.scripts }) c.in_ok-closed.ensures
+    ∙ ap (λ s. record { dfa = d; scripts = s }) c.in_ok-scripts.ensures in
     ok_map r (λ (e : EndedState). (e.given ≡ on) × (IsEnded e × HasAnswer e)) (λ (e : EndedState). IsRunOf job e)
     (λ e h. run-is job d e c.requires.minimal (h.0 ∙ is) h.1.0 h.1.1)
     (ok_and r _ _ c.solo.ensures.given (ok_and r _ _ c.solo.ensures.over c.solo.ensures.answer))

@@ -1,4 +1,5 @@
-use Rattle.zielonka.proofs.Causes.{usage, words_decide, words_decide_job, job_completes, read_fault, write_fault, counts, too_long, too_many_decide, too_many_complete, no_memory, all_read, known, completes}
+use Rattle.zielonka.proofs.Causes.{usage, words_decide, words_decide_job, job_completes, read_fault, write_fault, counts, too_long, too_many_decide}
+use Rattle.zielonka.proofs.Causes.{too_many_complete, no_memory, all_read, known, completes}
 use Rattle.zielonka.proofs.laws.statuses_have_their_causes.Goals as goal
 
 pub returns-clause-usage : goal.returns-clause-usage

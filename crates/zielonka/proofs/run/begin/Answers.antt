@@ -1,6 +1,6 @@
-use Rattle.std.proofs.Common.{sym, ◌∙◌, refl}
+use Rattle.std.proofs.Common.{sym, ap, ◌∙◌, refl}
 use Rattle.zielonka.specs.Output.{usage_text}
-use Rattle.zielonka.specs.Run.{Usage, NoMemory}
+use Rattle.zielonka.specs.Run.{reads_bytes, Usage, NoMemory}
 use Rattle.zielonka.proofs.Causes.{usage-not-read}
 use Rattle.zielonka.proofs.RunLemmas.{took-nothing}
 use Rattle.zielonka.proofs.ShownLemmas.{none-by-request, ended-silent, ended-telling, ended-job}
@@ -13,7 +13,7 @@ pub returns-in-Ok-Usage : goal.returns-in-Ok-Usage
 returns-in-Ok-Usage g c =
     let asks = sym c.in-Ok-Usage.ensures ∙ c.in-Ok-Usage.field-0-is in
     ended-telling _ _ _ _ 2 usage_text (Usage asks (refl, refl)) c.tell.ensures.said c.tell.ensures.shown
-    (none-by-request _ _ _ _ (λ command reads. usage-not-read command asks reads))
+    (none-by-request _ _ _ _ (λ command reads. usage-not-read asks (ap reads_bytes reads)))
 
 pub returns-in-Err-job_of : goal.returns-in-Err-job_of
 returns-in-Err-job_of g c =

@@ -12,8 +12,10 @@ answer_alone-requires-clause-claim g c = claim-there c.in-Asked.command c.in-Ask
 
 pub returns-in-Asked-clause-ran : goal.returns-in-Asked-clause-ran
 returns-in-Asked-clause-ran g c =
-    (ended-by _ _ _ _ c.in-Asked.command c.in-Asked.it c.finish.result c.in-Asked.ensures refl refl c.answer_alone.result c.answer_alone.ensures.answered c.answer_alone.ensures.made c.finish.ensures).ran
+    (ended-by _ _ _ _ c.in-Asked.command c.in-Asked.it c.finish.result c.in-Asked.ensures refl refl c.answer_alone.result c.answer_alone.ensures.answered
+    c.answer_alone.ensures.made c.finish.ensures).ran
 
 pub returns-in-Asked-clause-shown : goal.returns-in-Asked-clause-shown
 returns-in-Asked-clause-shown g c =
-    (ended-by _ _ _ _ c.in-Asked.command c.in-Asked.it c.finish.result c.in-Asked.ensures refl refl c.answer_alone.result c.answer_alone.ensures.answered c.answer_alone.ensures.made c.finish.ensures).shown
+    (ended-by _ _ _ _ c.in-Asked.command c.in-Asked.it c.finish.result c.in-Asked.ensures refl refl c.answer_alone.result c.answer_alone.ensures.answered
+    c.answer_alone.ensures.made c.finish.ensures).shown

@@ -17,7 +17,8 @@ bounds-states-x c =
     let t = c.loop-x-test.true in omega arith
 
 -- what is copied are the rows after the event
-row : (c : Joined-has) → c.if-has.rows.now ≡ rows_after (loc_of c.args.alphabet.now) c.args.alphabet.now.processes (c.args.word.now ++ c.args.a.0 ∷ []) c.loop-x.x
+row : (c : Joined-has) → c.if-has.rows.now ≡ rows_after (loc_of c.args.alphabet.now) c.args.alphabet.now.processes (c.args.word.now ++ c.args.a.0 ∷ [])
+    c.loop-x.x
 row c =
     let alphabet = c.args.alphabet.now in
     let x : ℕ = c.loop-x.x in
@@ -30,7 +31,8 @@ row c =
       | else-has w ↦
           ap now w.rows-is ∙ w.index-states-x.is
           ∙ row-at alphabet c.args.word.now c.args.states.now c.requires.states x w.index-states-x.result (omega arith)
-          ∙ rows-kept (loc_of alphabet) (length alphabet.letters) alphabet.processes c.args.word.now c.args.a.0 c.processes-n.ensures.whole.located c.requires.states.word c.requires.letter x
+          ∙ rows-kept (loc_of alphabet) (length alphabet.letters) alphabet.processes c.args.word.now c.args.a.0 c.processes-n.ensures.whole.located
+          c.requires.states.word c.requires.letter x
           (sym part ∙ w.if-has.false)
     ]
 

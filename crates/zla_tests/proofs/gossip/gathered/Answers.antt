@@ -9,7 +9,8 @@ use Rattle.zla_tests.proofs.gossip.gathered.Goals as goal
 use Rattle.zla_tests.proofs.gossip.gathered.Goals.{then-has+in_ok-copied+in_ok-push, else-has}
 
 pub loop-x-init : goal.loop-x-init
-loop-x-init c = c.new-inputs.ensures.items ∙ sym (ap (map (rows_after (loc_of c.args.alphabet.now) c.args.alphabet.now.processes c.args.word.now)) (members_below-zero c.loc-participants.result))
+loop-x-init c = c.new-inputs.ensures.items
+    ∙ sym (ap (map (rows_after (loc_of c.args.alphabet.now) c.args.alphabet.now.processes c.args.word.now)) (members_below-zero c.loc-participants.result))
 
 pub bounds-states-x : goal.bounds-states-x
 bounds-states-x c =
@@ -22,7 +23,8 @@ copied-requires-clause-shape c =
     let size : Rows → ℕ = λ rows. length rows.primary in
     let n = c.processes-n.ensures.value in
     let t = c.loop-x-test.true in
-    ap size (c.index-states-x.is ∙ row-at c.args.alphabet.now c.args.word.now c.args.states.now c.requires.states c.loop-x.x c.index-states-x.result (omega arith))
+    ap size (c.index-states-x.is ∙ row-at c.args.alphabet.now c.args.word.now c.args.states.now c.requires.states c.loop-x.x c.index-states-x.result
+    (omega arith))
     ∙ length-primary (loc_of c.args.alphabet.now) c.args.alphabet.now.processes c.args.word.now c.loop-x.x ∙ sym c.processes-n.ensures.value
 
 pub loop-x-preserved : goal.loop-x-preserved

@@ -16,10 +16,12 @@ add_row-requires-clause-right c =
     let none : alphabet_fault c.args.n rows ≡ None = rw (← c.as_slice.ensures.value) (sym c.fault_of.ensures ∙ c.in_default.is) in
     let g = c.into_iter-row-iterator.ensures.into_iter_gives in
     let size : vec_len c.args.rows ≡ length rows = search rules in
-    let t = YieldsList-turn (YieldsList-from_vec {s = c.into_iter-row-iterator.result} rows g.0 (g.1 ∙ size)) c.loop-row.yielded c.loop-row.row-iterator c.loop-row.yielded_by c.next.result c.next.new.self c.in-Some-row.row c.in-Some-row.is c.next.ensures.steps in
+    let t = YieldsList-turn (YieldsList-from_vec {s = c.into_iter-row-iterator.result} rows g.0 (g.1 ∙ size)) c.loop-row.yielded c.loop-row.row-iterator
+    c.loop-row.yielded_by c.next.result c.next.new.self c.in-Some-row.row c.in-Some-row.is c.next.ensures.steps in
     let a : ℕ = length c.loop-row.yielded in
     let fits : IsNextRow (alphabet_of_rows c.args.n (take a rows)) (get_or rows a c.in-Some-row.row) = row-fits c.args.n rows none a c.in-Some-row.row t.0 in
-    let same : alphabet_of_rows c.args.n (take a rows) ≡ c.loop-row.letters = ap (alphabet_of_rows c.args.n) (sym c.loop-row.invariant.first) ∙ sym c.loop-row.invariant.added in
+    let same : alphabet_of_rows c.args.n (take a rows) ≡ c.loop-row.letters = ap (alphabet_of_rows c.args.n) (sym c.loop-row.invariant.first)
+    ∙ sym c.loop-row.invariant.added in
     subst (λ alphabet. IsNextRow alphabet c.in-Some-row.row) same (subst (λ row. IsNextRow (alphabet_of_rows c.args.n (take a rows)) row) (sym t.1) fits)
 
 pub add_row-requires-clause-room : goal.add_row-requires-clause-room
@@ -28,7 +30,8 @@ add_row-requires-clause-room c =
     let none : alphabet_fault c.args.n rows ≡ None = rw (← c.as_slice.ensures.value) (sym c.fault_of.ensures ∙ c.in_default.is) in
     let g = c.into_iter-row-iterator.ensures.into_iter_gives in
     let long : vec_len c.args.rows ≡ length rows = search rules in
-    let t = YieldsList-turn (YieldsList-from_vec {s = c.into_iter-row-iterator.result} rows g.0 (g.1 ∙ long)) c.loop-row.yielded c.loop-row.row-iterator c.loop-row.yielded_by c.next.result c.next.new.self c.in-Some-row.row c.in-Some-row.is c.next.ensures.steps in
+    let t = YieldsList-turn (YieldsList-from_vec {s = c.into_iter-row-iterator.result} rows g.0 (g.1 ∙ long)) c.loop-row.yielded c.loop-row.row-iterator
+    c.loop-row.yielded_by c.next.result c.next.new.self c.in-Some-row.row c.in-Some-row.is c.next.ensures.steps in
     let few = (right_alphabet c.args.n rows none).few_letters in
     let size : length c.loop-row.letters.letters ≡ length c.loop-row.yielded =
     ap (λ (a : DistributedAlphabet). length a.letters) c.loop-row.invariant.added ∙ length-map c.loop-row.yielded letter_of_row in
@@ -40,7 +43,8 @@ into_alphabet-requires c =
     let none : alphabet_fault c.args.n rows ≡ None = rw (← c.as_slice.ensures.value) (sym c.fault_of.ensures ∙ c.in_default.is) in
     let g = c.into_iter-row-iterator.ensures.into_iter_gives in
     let long : vec_len c.args.rows ≡ length rows = search rules in
-    let t = YieldsList-end (YieldsList-from_vec {s = c.into_iter-row-iterator.result} rows g.0 (g.1 ∙ long)) c.loop-row.yielded c.loop-row.row-iterator c.loop-row.yielded_by c.next.result c.next.new.self c.in-None.is c.next.ensures.steps in
+    let t = YieldsList-end (YieldsList-from_vec {s = c.into_iter-row-iterator.result} rows g.0 (g.1 ∙ long)) c.loop-row.yielded c.loop-row.row-iterator
+    c.loop-row.yielded_by c.next.result c.next.new.self c.in-None.is c.next.ensures.steps in
     let some = (right_alphabet c.args.n rows none).some_letter in
     let size : length c.loop-row.letters.letters ≡ length c.loop-row.yielded =
     ap (λ (a : DistributedAlphabet). length a.letters) c.loop-row.invariant.added ∙ length-map c.loop-row.yielded letter_of_row in
@@ -51,12 +55,14 @@ loop-row-preserved c =
     let rows : List LetterRow = c.args.rows.items in
     let g = c.into_iter-row-iterator.ensures.into_iter_gives in
     let long : vec_len c.args.rows ≡ length rows = search rules in
-    let t = YieldsList-turn (YieldsList-from_vec {s = c.into_iter-row-iterator.result} rows g.0 (g.1 ∙ long)) c.loop-row.yielded c.loop-row.row-iterator c.loop-row.yielded_by c.next.result c.next.new.self c.in-Some-row.row c.in-Some-row.is c.next.ensures.steps in
+    let t = YieldsList-turn (YieldsList-from_vec {s = c.into_iter-row-iterator.result} rows g.0 (g.1 ∙ long)) c.loop-row.yielded c.loop-row.row-iterator
+    c.loop-row.yielded_by c.next.result c.next.new.self c.in-Some-row.row c.in-Some-row.is c.next.ensures.steps in
     let a : ℕ = length c.loop-row.yielded in
     let row = c.in-Some-row.row in
     let made : ℕ → List NamedLetter → DistributedAlphabet = λ n ls. record { processes = n; letters = ls } in
     let more : take (a + 1) rows ≡ c.loop-row.yielded ++ row ∷ [] =
-    take_more rows a row t.0 ∙ ap (λ xs. xs ++ get_or rows a row ∷ []) (sym c.loop-row.invariant.first) ∙ ap (λ (r : LetterRow). c.loop-row.yielded ++ r ∷ []) (sym t.1) in
+    take_more rows a row t.0 ∙ ap (λ xs. xs ++ get_or rows a row ∷ []) (sym c.loop-row.invariant.first)
+    ∙ ap (λ (r : LetterRow). c.loop-row.yielded ++ r ∷ []) (sym t.1) in
     record {
       added =
           c.in_ok-add_row.ensures.ok
@@ -71,6 +77,7 @@ returns c =
     let none : alphabet_fault c.args.n rows ≡ None = rw (← c.as_slice.ensures.value) (sym c.fault_of.ensures ∙ c.in_default.is) in
     let g = c.into_iter-row-iterator.ensures.into_iter_gives in
     let long : vec_len c.args.rows ≡ length rows = search rules in
-    let t = YieldsList-end (YieldsList-from_vec {s = c.into_iter-row-iterator.result} rows g.0 (g.1 ∙ long)) c.loop-row.yielded c.loop-row.row-iterator c.loop-row.yielded_by c.next.result c.next.new.self c.in-None.is c.next.ensures.steps in
+    let t = YieldsList-end (YieldsList-from_vec {s = c.into_iter-row-iterator.result} rows g.0 (g.1 ∙ long)) c.loop-row.yielded c.loop-row.row-iterator
+    c.loop-row.yielded_by c.next.result c.next.new.self c.in-None.is c.next.ensures.steps in
     let all : c.loop-row.yielded ≡ rows = c.loop-row.invariant.first ∙ ap (λ n. take n rows) t.1 ∙ take_all (length rows) rows (omega arith) in
     (none, c.into_alphabet.ensures ∙ c.loop-row.invariant.added ∙ ap (alphabet_of_rows c.args.n) all)

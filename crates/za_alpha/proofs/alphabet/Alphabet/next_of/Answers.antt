@@ -17,4 +17,5 @@ loop-i-preserved c =
     let at = number-at c.args.letters.now c.loop-i.i _ here in
     let off : has (loc_of alphabet (get_or (numbers c.args.letters.now) c.loop-i.i 0)) c.args.p ≡ false =
     ap (λ a. has (loc_of alphabet a) c.args.p) at ∙ sym (ap (λ (s : Procs). has (members s) c.args.p) c.loc.ensures) ∙ sym c.has.ensures ∙ c.if-has.false in
-    c.loop-i.invariant ∙ projection-skip (loc_of alphabet) c.args.p (numbers c.args.letters.now) c.loop-i.i (omega (arith, numbers-length c.args.letters.now)) off
+    c.loop-i.invariant ∙ projection-skip (loc_of alphabet) c.args.p (numbers c.args.letters.now) c.loop-i.i (omega (arith, numbers-length c.args.letters.now))
+    off

@@ -18,11 +18,13 @@ invariant_of-self-2 c =
     let place : c.len-place.result ≡ length entries = search rules in
     let at : c.len-place.result ≡ length letters = omega (arith, length-map entries letter_of_entry) in
     let P : DistributedAlphabet → Type 0 = λ a. IsNextLetter a l in
-    let asked : IsNextLetter c.args.self.now l = record { named = c.requires.named; room = c.requires.room; some = c.requires.some; below = c.requires.below; small = search rules } in
+    let asked : IsNextLetter c.args.self.now l =
+    record { named = c.requires.named; room = c.requires.room; some = c.requires.some; below = c.requires.below; small = search rules } in
     let next : IsNextLetter alphabet l = subst P (sym c.self.view_is) asked in
     let key : c.key_of-key.result ≡ key_of l.name = c.key_of-key.ensures.value ∙ ap key_of c.as_slice.ensures.value in
     let room = next.room in
-    let indexed = index-more letters l c.self.inside.index.first c.self.inside.index.next c.key_of-key.result c.self.invariant.indexed room key c.key_of-key.ensures.small in
+    let indexed = index-more letters l c.self.inside.index.first c.self.inside.index.next c.key_of-key.result c.self.invariant.indexed room key
+    c.key_of-key.ensures.small in
     let made : List NamedLetter → DistributedAlphabet = λ ls. record { processes = c.self.inside.processes; letters = ls } in
     let B : List NamedLetter → Type 0 = λ ls. IsBegun (made ls) in
     let I : List NamedLetter → List ℕ → List ℕ → Type 0 = λ ls first next. AreChains (key_at ls) (length ls) first next in
@@ -34,5 +36,6 @@ invariant_of-self-2 c =
       begun = subst B (sym more) (begun-more alphabet l c.self.invariant.begun next);
       indexed =
           subst (λ ls. I ls c.add.new.self.first c.add.new.self.next) (sym more)
-          (subst (λ f. I (letters ++ l ∷ []) f c.add.new.self.next) (sym first) (subst (λ n. I (letters ++ l ∷ []) (slice_set c.self.inside.index.first c.key_of-key.result (length letters + 1)) n) (sym after) indexed));
+          (subst (λ f. I (letters ++ l ∷ []) f c.add.new.self.next) (sym first)
+          (subst (λ n. I (letters ++ l ∷ []) (slice_set c.self.inside.index.first c.key_of-key.result (length letters + 1)) n) (sym after) indexed));
     }

@@ -12,7 +12,8 @@ pub returns : goal.returns
 returns c =
     let small = and_le_l c.args.self.0 c.args.other.0 in
     elim (cases_Bool (meets (members c.args.self) (members c.args.other))) [
-      | inl t ↦ let some : bit_and c.args.self.0 c.args.other.0 ≢ 0 = meets-and c.args.self.0 c.args.other.0 (omega arith) (omega arith) t in grind (arith, nat_tests, t)
+      | inl t ↦ let some : bit_and c.args.self.0 c.args.other.0 ≢ 0 = meets-and c.args.self.0 c.args.other.0 (omega arith) (omega arith) t in
+          grind (arith, nat_tests, t)
       | inr f ↦
           elim (cases_Bool (eqb (bit_and c.args.self.0 c.args.other.0) 0)) [
             | inl z ↦ grind (arith, nat_tests, f)

@@ -15,7 +15,7 @@ use Rattle.za_hall.specs.Steps.{tried, given_back, Taken}
 use Rattle.za_hall.specs.Answers.{Try}
 use Rattle.za_shared.specs.Records.{IsTransition}
 use Rattle.za_hall.specs.Answers.{note_of}
-use Rattle.za_hall.specs.Private.Serving.{number_of}
+use Rattle.za_hall.specs.Private.Serving.{note_number}
 use Rattle.za_hall.proofs.Events.{own_given, only}
 use Rattle.za_hall.proofs.Told.{one_note, inside, bounds, whole, held, free, its_own, numbers_after, told_after, hand_after, ended_after, try_held}
 use Rattle.za_hall.proofs.desk.DeskParts.hold.Goals as goal
@@ -86,7 +86,8 @@ compute-requires-clause-taken c a e =
     let k = c.serve-served.ensures.taken a (ap letter_number (sym c.taken_up-self.ensures) ∙ e) in
     let P : CompleteDfa → Type 0 = λ d. (a < length d.alphabet.letters) × ((w : List ℕ) × AreLocalsAfter d w
     (loc_of d.alphabet a) c.serve-served.new.bench.locals) in
-    subst P (sym (same_dfa c.args.hall.now.closed c.args.hall.now.board.shared.key.value.given c.args.self.now.seat.me.0.given c.in-Some.table.given c.args.hall.now.of_job.2 c.requires.given l.1.of_job)) (k.1, (c.in-Some.table.state.journal, k.2))
+    subst P (sym (same_dfa c.args.hall.now.closed c.args.hall.now.board.shared.key.value.given c.args.self.now.seat.me.0.given c.in-Some.table.given
+    c.args.hall.now.of_job.2 c.requires.given l.1.of_job)) (k.1, (c.in-Some.table.state.journal, k.2))
 
 -- the seat after the hold
 at_end : (v : View) (t d : TableState) (x : ℕ) (xs : List (ℕ × Option TableState)) (m n : Hand) → m ≡ (tried 0 t v, xs) → n ≡ (given_back x d m.0, []) → n ≡
@@ -166,7 +167,7 @@ invariant_of-self c =
     let R : Given → Type 0 = λ j. (a : ℕ) → letter_number c.args.self.now.letter ≡ Some a
     → IsTransition j.dfa a c.args.self.now.bench.locals c.args.self.now.made in record {
       rests = (
-        ap (λ (m : Hand). map number_of m.0.notes) now ∙ r.0,
+        ap (λ (m : Hand). map note_number m.0.notes) now ∙ r.0,
         ap (λ (m : Hand). length (note_of m.0).fired) now ∙ r.1,
         ap (λ (m : Hand). (note_of m.0).hand) now ∙ r.2,
         ap (λ (m : Hand). m.0.holds) now ∙ not_zero n f.0,
@@ -202,7 +203,8 @@ tell-requires c a e =
     let r = c.args.self.now.rests in let k = l.1 in
     let o = only k.covered a c.args.self.now.process (held _ _ _ _ r.0 r.1 r.2 c.in-Some.table k a e) in
     subst (λ (d : CompleteDfa). a < length d.alphabet.letters)
-    (sym (same_dfa c.args.hall.now.closed c.args.hall.now.board.shared.key.value.given c.args.self.now.seat.me.0.given c.in-Some.table.given c.args.hall.now.of_job.2 c.requires.given k.of_job)) o.0
+    (sym (same_dfa c.args.hall.now.closed c.args.hall.now.board.shared.key.value.given c.args.self.now.seat.me.0.given c.in-Some.table.given
+    c.args.hall.now.of_job.2 c.requires.given k.of_job)) o.0
 
 pub returns-clause-desk : goal.returns-clause-desk
 returns-clause-desk c =

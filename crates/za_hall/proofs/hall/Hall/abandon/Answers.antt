@@ -10,7 +10,8 @@ returns-in-Some-clause-refused c = let h = c.self.inside.parts in
 
 pub gather-table-requires-clause-all : goal.gather-table-requires-clause-all
 gather-table-requires-clause-all c = let h = c.self.inside.parts in
-    whole h.processes h.board.shared.key.value.given.dfa.alphabet.processes h.of_job.0 c.deref.result.now c.args.desks.items c.deref.ensures.value c.in_default.ensures
+    whole h.processes h.board.shared.key.value.given.dfa.alphabet.processes h.of_job.0 c.deref.result.now c.args.desks.items c.deref.ensures.value
+    c.in_default.ensures
 
 pub gather-table-requires-clause-some : goal.gather-table-requires-clause-some
 gather-table-requires-clause-some c = let h = c.self.inside.parts in

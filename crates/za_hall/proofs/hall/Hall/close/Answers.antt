@@ -21,7 +21,8 @@ returns-in-Some-least_waiting-clause-refused c = let h = c.self.inside.parts in 
 
 pub gather-requires-clause-all : goal.gather-requires-clause-all
 gather-requires-clause-all c = let h = c.self.inside.parts in
-    whole h.processes h.board.shared.key.value.given.dfa.alphabet.processes h.of_job.0 c.deref.result.now c.args.desks.items c.deref.ensures.value c.in_default.ensures
+    whole h.processes h.board.shared.key.value.given.dfa.alphabet.processes h.of_job.0 c.deref.result.now c.args.desks.items c.deref.ensures.value
+    c.in_default.ensures
 
 pub gather-requires-clause-some : goal.gather-requires-clause-some
 gather-requires-clause-some c = let h = c.self.inside.parts in

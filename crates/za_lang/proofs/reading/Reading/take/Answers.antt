@@ -23,7 +23,8 @@ returns-clause-taken c s later h awaits =
     let words : words_of line.text ≡ first ∷ rest = sym c.new-words.ensures ∙ c.in-Some.ensures in
     let header : Awaits self (version_said (head_of first) rest) v = subst (λ ws. Awaits self (version_by later ws) v) words awaits in
     let no : begins_comment v first ≡ false =
-    sym (same_comment self v first rest header) ∙ ap (λ u. begins_comment u first) (sym (c.version.ensures s h)) ∙ sym c.is_comment.ensures ∙ c.if-is_comment.false in
+    sym (same_comment self v first rest header) ∙ ap (λ u. begins_comment u first) (sym (c.version.ensures s h)) ∙ sym c.is_comment.ensures
+    ∙ c.if-is_comment.false in
     let in_words : words_in v line ≡ first ∷ rest = ap (but_comments v) words ∙ (rw no refl) in
     let at : head_of first ≡ head = sym c.head_of.ensures in
     let whole : line.whole ≡ true = c.if-not-line.false in

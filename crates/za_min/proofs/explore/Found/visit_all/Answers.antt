@@ -10,5 +10,6 @@ returns c =
     let all : c.loop-a.a ≡ length c.args.dfa.now.alphabet.letters = omega arith in
     record {
       place = c.loop-a.invariant.within;
-      found = visited-row d c.args.at c.loop-a.self.words.items c.loop-a.self.states.items (subst (λ a. AreFoundStates d c.args.at a c.loop-a.self.words.items c.loop-a.self.states.items) all c.loop-a.invariant.found);
+      found = visited-row d c.args.at c.loop-a.self.words.items c.loop-a.self.states.items
+          (subst (λ a. AreFoundStates d c.args.at a c.loop-a.self.words.items c.loop-a.self.states.items) all c.loop-a.invariant.found);
     }

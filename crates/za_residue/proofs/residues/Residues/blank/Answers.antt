@@ -12,7 +12,8 @@ use Rattle.za_residue.proofs.residues.Residues.blank.Goals as goal
 use Rattle.za_residue.proofs.residues.Residues.blank.Goals.{After-write_identities}
 
 -- the values that were written
-values : (c : After-write_identities) → (with_items c.in_ok-values.values c.write_identities.new.block).items ≡ map (λ i. i % c.args.states) (range_with_len 0 (2 ^ c.args.n * c.args.states))
+values : (c : After-write_identities) →
+    (with_items c.in_ok-values.values c.write_identities.new.block).items ≡ map (λ i. i % c.args.states) (range_with_len 0 (2 ^ c.args.n * c.args.states))
 values c =
     let k : ℕ = c.args.states in
     let block = c.write_identities.new.block in
@@ -44,7 +45,8 @@ invariant_of-result c =
           (row_of_cell k (2 ^ c.args.n) c.args.states (omega arith)).1;
     }
 
-functions : (c : After-write_identities) → record { processes = c.args.n; states = c.args.states; values = (with_items c.in_ok-values.values c.write_identities.new.block).items }
+functions : (c : After-write_identities) →
+    record { processes = c.args.n; states = c.args.states; values = (with_items c.in_ok-values.values c.write_identities.new.block).items }
     ≡ identities c.args.n c.args.states
 functions c = ap (λ (xs : List ℕ). record { processes = c.args.n; states = c.args.states; values = xs }) (values c)
 

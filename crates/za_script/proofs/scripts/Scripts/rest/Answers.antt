@@ -17,7 +17,8 @@ rest-is c =
     c.in_ok-rest.ensures ∙ ap (λ n. drop n (numbers c.letters.result.now)) c.count_of-count.ensures.value
     ∙ ap (drop (length (projection (loc_of c.args.alphabet.now) c.loop-p.p (numbers c.args.word.now)))) (c.letters.ensures ∙ c.script.ensures)
 
-counted : (c : After-len-letters) → c.loop-p.letters + c.len-letters.result ≡ total (rests (loc_of c.args.alphabet.now) (script_of c.args.self.now) (numbers c.args.word.now)) (c.loop-p.p + 1)
+counted : (c : After-len-letters) →
+    c.loop-p.letters + c.len-letters.result ≡ total (rests (loc_of c.args.alphabet.now) (script_of c.args.self.now) (numbers c.args.word.now)) (c.loop-p.p + 1)
 counted c =
     let f = rests (loc_of c.args.alphabet.now) (script_of c.args.self.now) (numbers c.args.word.now) in
     let long : c.len-letters.result ≡ length (f c.loop-p.p) = c.len-letters.ensures ∙ ap length (rest-is c) in

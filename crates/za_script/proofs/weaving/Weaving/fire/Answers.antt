@@ -17,7 +17,8 @@ overflow_add-index_mut c =
     let own : has loc c.loop-p.p ≡ true = ap (λ s. has (members s) c.loop-p.p) (sym c.loc-loc.ensures) ∙ sym c.has.ensures ∙ c.if-has.true in
     let within : c.loop-p.p < length c.args.scripts.now = omega arith in
     let la : c.args.a.0 < length c.args.self.now.sets.items = omega arith in
-    let below = place-below (script_of c.args.scripts.now) loc c.args.self.now.places.items c.args.self.now.sets.items c.args.a.0 c.loop-p.p c.requires.ready c.requires.complete.same la own in
+    let below = place-below (script_of c.args.scripts.now) loc c.args.self.now.places.items c.args.self.now.sets.items c.args.a.0 c.loop-p.p c.requires.ready
+    c.requires.complete.same la own in
     let short = length-le-total (script_of c.args.scripts.now) (length c.args.scripts.now) c.loop-p.p within in
     let few = c.requires.limits.few_letters in
     let size = c.loop-p.invariant.firing.size in
@@ -45,7 +46,8 @@ loop-p-preserved c =
           let same = w.mark_next.ensures.letters in
           let k = firing-move scripts loc old places sets more n c.loop-p.invariant.firing (own ∙ w.if-has.true) inside (omega arith)
           (λ a q l.
-          w.mark_next.ensures.joined a q (omega arith) ∙ ap (λ v. has (set_at sets a) q || (q == n && comes_next (scripts n) (slice_index (set places n (v + 1)) n) a)) here) in
+          w.mark_next.ensures.joined a q (omega arith)
+          ∙ ap (λ v. has (set_at sets a) q || (q == n && comes_next (scripts n) (slice_index (set places n (v + 1)) n) a)) here) in
           record {
             letters = ap (λ l. vec_len l.sets) w.self-is ∙ same ∙ c.loop-p.invariant.letters;
             firing =

@@ -46,13 +46,15 @@ module _ (c : After-vacate) where
 
   -- what stands on the bench
   on : c.vacate.new.bench.locals ≡ values_at r.shelf r.keys (members c.args.participants)
-  on = ap (λ (b : LocalStates). b.locals) c.vacate.ensures.bench ∙ ap (λ (ks : List ℕ). values_at r.shelf ks (members c.args.participants)) c.deref.ensures.value
+  on = ap (λ (b : LocalStates). b.locals) c.vacate.ensures.bench ∙ ap (λ (ks : List ℕ). values_at r.shelf ks (members c.args.participants))
+      c.deref.ensures.value
 
 pub make-requires-clause-locals : goal.make-requires-clause-locals
 make-requires-clause-locals c =
     let k = (goal.at.make-requires-clause-locals c).After-vacate in
     let given = c.requires.locals in
-    let h : AreAllLocalsAfter (r k).dfa given.0 (locals_of (r k)) = subst (λ (x : Records). AreAllLocalsAfter x.dfa given.0 (locals_of x)) (sym c.self.view_is) given.1 in (
+    let h : AreAllLocalsAfter (r k).dfa given.0 (locals_of (r k)) = subst (λ (x : Records). AreAllLocalsAfter x.dfa given.0 (locals_of x))
+    (sym c.self.view_is) given.1 in (
       given.0,
       subst (AreLocalsAfter (r k).dfa given.0 (loc_of (r k).dfa.alphabet c.args.a.0)) (sym (on k))
           (participants-after (r k) given.0 c.args.a.0 (members c.args.participants) (participants k) c.self.invariant.records refl (letter k) h),
@@ -117,11 +119,13 @@ module _ (c : After-turn) where
 
   within : (p : ℕ) → has (members c.args.participants) p ≡ true → p < length (r k).keys
   within p h =
-      let l = c.self.invariant.records.complete.distributed.located.below c.args.a.0 p (letter k) (subst (λ (ps : List ℕ). has ps p ≡ true) (participants k) h) in
+      let l = c.self.invariant.records.complete.distributed.located.below c.args.a.0 p (letter k)
+      (subst (λ (ps : List ℕ). has ps p ≡ true) (participants k) h) in
       let e = c.self.invariant.records.keys_size in omega arith
 
   fewer : HaveFewer (r k).shelf c.vacate.new.shelf c.pop.new.self.items c.vacate.new.spares.items (held_by (r k).keys (members c.args.participants))
-  fewer = subst (λ (ks : List ℕ). HaveFewer (r k).shelf c.vacate.new.shelf c.pop.new.self.items c.vacate.new.spares.items (held_by ks (members c.args.participants)))
+  fewer = subst (λ (ks : List ℕ). HaveFewer (r k).shelf c.vacate.new.shelf c.pop.new.self.items c.vacate.new.spares.items
+      (held_by ks (members c.args.participants)))
       c.deref.ensures.value c.vacate.ensures.fewer
 
   turned : HaveTurned (r k).keys c.turn.new.keys (members c.args.participants) c.shelve-key.result

@@ -8,4 +8,5 @@ use Rattle.za_table.proofs.ended.Ended.answer.Goals as goal
 
 pub returns-clause-answer : goal.returns-clause-answer
 returns-clause-answer c =
-    subst (λ (x : EndedState). IsAnswer (loc_of x.given.dfa.alphabet) (automaton_of x.given.dfa) (script_of x.given.scripts) c.self.inside.answer) c.self.view_is c.self.invariant.correct
+    subst (λ (x : EndedState). IsAnswer (loc_of x.given.dfa.alphabet) (automaton_of x.given.dfa) (script_of x.given.scripts) c.self.inside.answer)
+    c.self.view_is c.self.invariant.correct

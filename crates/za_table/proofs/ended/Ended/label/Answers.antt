@@ -14,4 +14,5 @@ pub returns : goal.returns
 returns c =
     let l : c.args.at < length c.self.inside.word = subst (λ (x : EndedState). c.args.at < length x.state.journal) (sym c.self.view_is) c.requires in
     let s = c.self.invariant.labels_size in
-    c.index.ensures ∙ get_or_default c.self.inside.labels.items c.args.at c.index.result.now 0 (omega arith) ∙ c.self.invariant.labels c.args.at l ∙ ap (λ (x : EndedState). label_at x.given.dfa x.state.journal c.args.at) c.self.view_is
+    c.index.ensures ∙ get_or_default c.self.inside.labels.items c.args.at c.index.result.now 0 (omega arith) ∙ c.self.invariant.labels c.args.at l ∙ ap
+    (λ (x : EndedState). label_at x.given.dfa x.state.journal c.args.at) c.self.view_is

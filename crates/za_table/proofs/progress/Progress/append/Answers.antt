@@ -15,9 +15,12 @@ returns-clause-appended c =
     let new : Tally = record { counts = c.tally.new.counts; arrived = c.tally.new.arrived; latest = c.tally.new.latest } in
     let at : s.journal.len ≡ length s.journal.items = let ok = s.journal.ok in omega arith in
     let t : HasTallied old new (length s.counts.items) ps c.len-at.result =
-    subst (λ (xs : List ℕ). HasTallied (record { counts = xs; arrived = s.arrived.items; latest = s.latest.items }) new (length xs) ps c.len-at.result) c.deref_mut.ensures.value
-    (subst (λ (xs : List Bool). HasTallied (record { counts = c.deref_mut.result.now; arrived = xs; latest = s.latest.items }) new (length c.deref_mut.result.now) ps c.len-at.result) c.deref_mut-2.ensures.value
-    (subst (λ (xs : List (Option ℕ)). HasTallied (record { counts = c.deref_mut.result.now; arrived = c.deref_mut-2.result.now; latest = xs }) new (length c.deref_mut.result.now) ps c.len-at.result)
+    subst (λ (xs : List ℕ). HasTallied (record { counts = xs; arrived = s.arrived.items; latest = s.latest.items }) new (length xs) ps c.len-at.result)
+    c.deref_mut.ensures.value
+    (subst (λ (xs : List Bool). HasTallied (record { counts = c.deref_mut.result.now; arrived = xs; latest = s.latest.items }) new
+    (length c.deref_mut.result.now) ps c.len-at.result) c.deref_mut-2.ensures.value
+    (subst (λ (xs : List (Option ℕ)). HasTallied (record { counts = c.deref_mut.result.now; arrived = c.deref_mut-2.result.now; latest = xs }) new
+    (length c.deref_mut.result.now) ps c.len-at.result)
     c.deref_mut-3.ensures.value c.tally.ensures)) in
     let counts = written s.counts c.tally.new.counts t.counts_size in
     let arrived = written s.arrived c.tally.new.arrived t.arrived_size in

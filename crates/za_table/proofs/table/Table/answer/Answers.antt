@@ -18,4 +18,5 @@ returns-clause-answer c =
     let m = machine t ok in
     subst (IsAnswer (loc_of d.alphabet) (automaton_of d) (script_of t.given.scripts)) (sym c.read_answer.ensures.value)
     (over_has_the_answer (machine_of t.given) (automaton_of d) t.state m refl
-    (diamonds_close_the_language (loc_of d.alphabet) d.alphabet.processes (automaton_of d) m.alphabet (total_of_complete d (complete t ok)) c.read_answer.ensures.diamonds) ok.reached c.requires)
+    (diamonds_close_the_language (loc_of d.alphabet) d.alphabet.processes (automaton_of d) m.alphabet (total_of_complete d (complete t ok))
+    c.read_answer.ensures.diamonds) ok.reached c.requires)

@@ -32,9 +32,11 @@ module _ (c : After-without-missing) where
   small = (next-own (table_in c.self.inside) c.self.invariant.table c.args.p a allowed.0 comes).letter
 
   at : c.index.result.now ≡ Rattle.std.specs.Prelude.slice_index_or c.self.inside.missing.items a no_process
-  at = c.index.ensures ∙ get_or_default c.self.inside.missing.items a c.index.result.now no_process (let s = c.self.invariant.missing.size in let l = small in omega arith)
+  at = c.index.ensures ∙ get_or_default c.self.inside.missing.items a c.index.result.now no_process
+      (let s = c.self.invariant.missing.size in let l = small in omega arith)
 
-  all : AreAllMissing (machine_of (given_in c.self.inside)) (arrive c.args.p (state_in c.self.inside)) (slice_set c.self.inside.missing.items a c.without-missing.result)
+  all : AreAllMissing (machine_of (given_in c.self.inside)) (arrive c.args.p (state_in c.self.inside))
+      (slice_set c.self.inside.missing.items a c.without-missing.result)
   all =
       let size = c.self.invariant.progress.arrived_size in
       let inside = allowed.0 in
@@ -63,5 +65,6 @@ invariant_of-self c =
 pub returns-clause-answer : goal.returns-clause-answer
 returns-clause-answer c =
     let k = (goal.at.returns-clause-answer c).After-without-missing in
-    arrived-answer (machine_of (given_in c.self.inside)) (arrive c.args.p (state_in c.self.inside)) c.args.p c.in-Some.letter c.without-missing.result c.arrival_at.result
+    arrived-answer (machine_of (given_in c.self.inside)) (arrive c.args.p (state_in c.self.inside)) c.args.p c.in-Some.letter c.without-missing.result
+    c.arrival_at.result
     (comes k) (here k) c.arrival_at.ensures.complete c.arrival_at.ensures.short

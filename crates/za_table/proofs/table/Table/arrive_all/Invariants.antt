@@ -10,5 +10,6 @@ invariant-loop-p l =
       given : l.self.given ≡ l.initial.self.given;
       hands : l.self.hands ≡ l.initial.self.hands;
       journal : l.self.state.journal ≡ l.initial.self.state.journal;
-      all : (p : ℕ) → p < l.p → fired_by (machine_of l.self.given) l.self.state.journal p < length (script_of l.self.given.scripts p) → is_in l.self.state.arrived p ≡ true;
+      all : (p : ℕ) → p < l.p → fired_by (machine_of l.self.given) l.self.state.journal p < length (script_of l.self.given.scripts p) →
+          is_in l.self.state.arrived p ≡ true;
     }

@@ -11,8 +11,10 @@ invariant_of-self c =
     let t = c.self.inside in
     let ok = c.self.invariant in
     record {
-      table = ends (table_in t) ok.table c.args.p (subst (λ (x : TableState). IsAllowed (machine_of x.given) x.state (End c.args.p)) (sym c.self.view_is) c.requires);
-      progress = with-others (machine_of (given_in t)) t.progress t.progress.arrived (Rattle.std.specs.Vec.with_item t.progress.ended c.args.p true) ok.progress ok.progress.arrived_size
+      table = ends (table_in t) ok.table c.args.p (subst (λ (x : TableState). IsAllowed (machine_of x.given) x.state (End c.args.p)) (sym c.self.view_is)
+          c.requires);
+      progress = with-others (machine_of (given_in t)) t.progress t.progress.arrived (Rattle.std.specs.Vec.with_item t.progress.ended c.args.p true)
+          ok.progress ok.progress.arrived_size
           (length-set t.progress.ended.items c.args.p true ∙ ok.progress.ended_size);
       missing = record { size = ok.missing.size; each = ok.missing.each };
     }

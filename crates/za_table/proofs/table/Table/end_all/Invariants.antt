@@ -11,5 +11,6 @@ invariant-loop-p l =
       hands : l.self.hands ≡ l.initial.self.hands;
       journal : l.self.state.journal ≡ l.initial.self.state.journal;
       arrived : l.self.state.arrived ≡ l.initial.self.state.arrived;
-      all : (p : ℕ) → p < l.p → length (script_of l.self.given.scripts p) ≤ fired_by (machine_of l.self.given) l.self.state.journal p → is_in l.self.state.ended p ≡ true;
+      all : (p : ℕ) → p < l.p → length (script_of l.self.given.scripts p) ≤ fired_by (machine_of l.self.given) l.self.state.journal p →
+          is_in l.self.state.ended p ≡ true;
     }

@@ -47,8 +47,11 @@ invariant_of-self c =
     let a = c.args.a.0 in
     let moved = happens (table_in t) ok.table (Fire a) (allowed k) (ap (λ (x : TableState). hand x.hands a) c.self.view_is ∙ c.requires.free) in
     record {
-      table = table-after t ok a (allowed k) t.hands.items moved c.fire.new.self c.append.new.progress c.fire.ensures.fired c.fire.ensures.records c.append.ensures.appended;
-      progress = progress-after t ok a (allowed k) t.hands.items moved c.fire.new.self c.append.new.progress c.fire.ensures.fired c.fire.ensures.records c.append.ensures.appended;
-      missing = missing-after t ok a (allowed k) t.hands.items moved c.fire.new.self c.append.new.progress c.fire.ensures.fired c.fire.ensures.records c.append.ensures.appended
+      table = table-after t ok a (allowed k) t.hands.items moved c.fire.new.self c.append.new.progress c.fire.ensures.fired c.fire.ensures.records
+          c.append.ensures.appended;
+      progress = progress-after t ok a (allowed k) t.hands.items moved c.fire.new.self c.append.new.progress c.fire.ensures.fired c.fire.ensures.records
+          c.append.ensures.appended;
+      missing = missing-after t ok a (allowed k) t.hands.items moved c.fire.new.self c.append.new.progress c.fire.ensures.fired c.fire.ensures.records
+          c.append.ensures.appended
           c.participants-participants.result (participants k);
     }

@@ -10,7 +10,8 @@ returns-clause-first c =
     let t = c.args.self.now in
     let e = c.processes-p-end.ensures.value in
     let l = c.loop-p-test.false in
-    least-found (is_complete (machine_of t.given) t.state) (length t.given.dfa.alphabet.letters) c.loop-p.first c.loop-p.invariant.small c.loop-p.invariant.found (λ k s h.
+    least-found (is_complete (machine_of t.given) t.state) (length t.given.dfa.alphabet.letters) c.loop-p.first c.loop-p.invariant.small
+    c.loop-p.invariant.found (λ k s h.
     let located = (whole t c.processes-p-end.ensures.table).located in
     let who = located.some k s in
     let b = located.below k who.0 s who.1 in

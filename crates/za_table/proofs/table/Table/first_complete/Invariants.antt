@@ -10,5 +10,6 @@ invariant-loop-p l =
     record {
       small : l.first ≤ length l.self.given.dfa.alphabet.letters;
       found : (l.first ≡ length l.self.given.dfa.alphabet.letters) ⊎ (is_complete (machine_of l.self.given) l.self.state l.first ≡ true);
-      covers : (a q : ℕ) → q < l.p → is_complete (machine_of l.self.given) l.self.state a ≡ true → has (loc_of l.self.given.dfa.alphabet a) q ≡ true → l.first ≤ a;
+      covers : (a q : ℕ) → q < l.p → is_complete (machine_of l.self.given) l.self.state a ≡ true → has (loc_of l.self.given.dfa.alphabet a) q ≡ true →
+          l.first ≤ a;
     }

@@ -18,7 +18,8 @@ invariant_of-result c =
     of-word t c.self.invariant c.answer-answer.result
     (subst (λ (x : TableState). IsOver (machine_of x.given) x.state) (sym same) c.requires)
     (c.answer-answer.ensures.value ∙ ap (λ (x : TableState). answer_at (automaton_of x.given.dfa) x.state) (sym same))
-    (subst (λ (x : TableState). IsAnswer (loc_of x.given.dfa.alphabet) (automaton_of x.given.dfa) (script_of x.given.scripts) c.answer-answer.result) (sym same) c.answer-answer.ensures.answer)
+    (subst (λ (x : TableState). IsAnswer (loc_of x.given.dfa.alphabet) (automaton_of x.given.dfa) (script_of x.given.scripts) c.answer-answer.result)
+    (sym same) c.answer-answer.ensures.answer)
     c.of_letters.result c.of_letters.ensures
 
 pub returns-clause-answer : goal.returns-clause-answer
@@ -27,6 +28,7 @@ returns-clause-answer c =
     let x = c.args.self in
     let same : table_in t ≡ x = c.self.view_is ∙ c.answer-answer.ensures.rest in
     let told : HasAnswer (record { given = x.given; state = x.state }) =
-    subst (IsAnswer (loc_of x.given.dfa.alphabet) (automaton_of x.given.dfa) (script_of x.given.scripts)) c.answer-answer.ensures.value c.answer-answer.ensures.answer in
+    subst (IsAnswer (loc_of x.given.dfa.alphabet) (automaton_of x.given.dfa) (script_of x.given.scripts)) c.answer-answer.ensures.value
+    c.answer-answer.ensures.answer in
     subst (λ (w : List ℕ). HasAnswer (record { given = (table_in t).given; state = record (table_in t).state { journal = w } })) (sym c.of_letters.ensures)
     (subst (λ (y : TableState). HasAnswer (record { given = y.given; state = y.state })) (sym same) told)

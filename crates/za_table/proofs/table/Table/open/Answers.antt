@@ -20,7 +20,8 @@ processes c = c.processes.ensures.value ∙ c.requires.processes
 
 hands : (c : In_ok-shared) → c.in_ok-hands.hands.items ≡ no_hands (machine_of (given c))
 hands c =
-    let m : c.letters-letters.result ≡ length c.args.closed.alphabet.letters = c.letters-letters.ensures.value ∙ ap (λ (x : DistributedAlphabet). length x.letters) (c.alphabet.ensures ∙ ap (λ (x : CompleteDfa). x.alphabet) c.dfa.ensures.value) in
+    let m : c.letters-letters.result ≡ length c.args.closed.alphabet.letters = c.letters-letters.ensures.value ∙ ap
+    (λ (x : DistributedAlphabet). length x.letters) (c.alphabet.ensures ∙ ap (λ (x : CompleteDfa). x.alphabet) c.dfa.ensures.value) in
     c.in_ok-hands.ensures ∙ ap (λ (k : ℕ). replicate {A = Option ℕ} k None) m
 
 room : (c : In_ok-shared) → total (script_of c.args.scripts) c.args.closed.alphabet.processes ≤ c.total.result
@@ -30,7 +31,11 @@ same : (c : In_ok-shared) → record { dfa = c.in_ok-shared.shared.dfa; scripts 
 same c = ap (λ (x : CompleteDfa). record { dfa = x; scripts = c.args.scripts }) c.in_ok-shared.ensures.dfa
 
 abbrev state : (c : In_ok-shared) → State
-state c = let p = c.in_ok-progress.progress in record { journal = Rattle.za_alpha.specs.Letters.numbers p.journal.items; arrived = p.arrived.items; ended = p.ended.items }
+state c = let p = c.in_ok-progress.progress in record {
+  journal = Rattle.za_alpha.specs.Letters.numbers p.journal.items;
+  arrived = p.arrived.items;
+  ended = p.ended.items;
+}
 
 located : (c : In_ok-shared) → AreLocated c.args.closed.alphabet (length c.args.closed.alphabet.letters) c.in_ok-missing.missing.items
 located c = subst (λ (al : DistributedAlphabet). AreLocated al (length al.letters) c.in_ok-missing.missing.items)
@@ -46,8 +51,10 @@ invariant_of-result c =
         state = record { journal = Rattle.za_alpha.specs.Letters.numbers p.journal.items; arrived = p.arrived.items; ended = p.ended.items };
         hands = c.in_ok-hands.hands.items;
         shared = c.in_ok-shared.shared;
-      }) c.requires (same c) (started-state c.processes.result c.total.result (machine_of g) p c.in_ok-progress.ensures (processes c)) (hands c) refl c.in_ok-shared.ensures;
-      progress = subst (λ (x : Given). IsProgress (machine_of x) p) (sym (same c)) (started-progress c.processes.result c.total.result (machine_of g) p c.in_ok-progress.ensures (processes c) (room c));
+      }) c.requires (same c) (started-state c.processes.result c.total.result (machine_of g) p c.in_ok-progress.ensures (processes c))
+          (hands c) refl c.in_ok-shared.ensures;
+      progress = subst (λ (x : Given). IsProgress (machine_of x) p) (sym (same c))
+          (started-progress c.processes.result c.total.result (machine_of g) p c.in_ok-progress.ensures (processes c) (room c));
       missing = subst (λ (x : Given). AreAllMissing (machine_of x) (state c) c.in_ok-missing.missing.items) (sym (same c))
           (subst (λ (x : State). AreAllMissing (machine_of g) x c.in_ok-missing.missing.items)
           (sym (started-state c.processes.result c.total.result (machine_of g) p c.in_ok-progress.ensures (processes c)))

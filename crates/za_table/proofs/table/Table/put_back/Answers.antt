@@ -9,7 +9,8 @@ pub invariant_of-self : goal.invariant_of-self
 invariant_of-self c =
     let ok = c.self.invariant in
     record {
-      table = puts_back (table_in c.self.inside) ok.table c.args.a.0 c.requires.0 (ap (λ (x : TableState). hand x.hands c.args.a.0) c.self.view_is ∙ c.requires.1);
+      table = puts_back (table_in c.self.inside) ok.table c.args.a.0 c.requires.0
+          (ap (λ (x : TableState). hand x.hands c.args.a.0) c.self.view_is ∙ c.requires.1);
       progress = ok.progress;
       missing = ok.missing;
     }

@@ -13,5 +13,7 @@ accepting-accepts-requires c =
     let ok = c.self.invariant.table in
     let total = total_of_complete d ok.records.complete in
     let below : c.verdict-state.result < d.states =
-    subst (λ (x : ℕ). x < d.states) (sym (c.verdict-state.ensures.state (state_in t).journal ok.locals)) (walk-below (automaton_of d) total d.start (state_in t).journal total.starts ok.locals.word) in
-    subst (λ (x : ℕ). c.verdict-state.result < x) (sym (ap (λ (x : CompleteDfa). x.states) (c.dfa.ensures.value ∙ c.closed.ensures.value ∙ ap (λ (r : Records). r.dfa) c.verdict-state.ensures.rest))) below
+    subst (λ (x : ℕ). x < d.states) (sym (c.verdict-state.ensures.state (state_in t).journal ok.locals))
+    (walk-below (automaton_of d) total d.start (state_in t).journal total.starts ok.locals.word) in
+    subst (λ (x : ℕ). c.verdict-state.result < x)
+    (sym (ap (λ (x : CompleteDfa). x.states) (c.dfa.ensures.value ∙ c.closed.ensures.value ∙ ap (λ (r : Records). r.dfa) c.verdict-state.ensures.rest))) below

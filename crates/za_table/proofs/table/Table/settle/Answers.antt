@@ -20,7 +20,8 @@ allowed : (c : After-participants-participants) → IsAllowed (machine_of (given
 allowed c = let i = c.self.invariant.table.in_hand.each c.args.a.0 c.args.by (held c) in (i.letter, i.complete)
 
 pub settle-requires-clause-made : goal.settle-requires-clause-made
-settle-requires-clause-made c = subst (λ (x : TableState). IsTransition x.given.dfa c.args.a.0 c.args.bench.now.locals c.args.made.now) (sym c.self.view_is) c.requires.made
+settle-requires-clause-made c = subst (λ (x : TableState). IsTransition x.given.dfa c.args.a.0 c.args.bench.now.locals c.args.made.now) (sym c.self.view_is)
+    c.requires.made
 
 participants : (c : After-participants-participants) → members c.participants-participants.result ≡ loc_of c.self.inside.shared.dfa.alphabet c.args.a.0
 participants c = c.participants-participants.ensures ∙ ap (λ (x : TableState). loc_of x.given.dfa.alphabet c.args.a.0) (sym c.self.view_is)
@@ -55,8 +56,11 @@ invariant_of-self c =
     let moved = settled (table_in t) ok.table a c.args.by (held k) in
     let hands = slice_set t.hands.items a None in
     record {
-      table = table-after t ok a (allowed k) hands moved c.settle.new.self c.append.new.progress c.settle.ensures.fired c.settle.ensures.records c.append.ensures.appended;
-      progress = progress-after t ok a (allowed k) hands moved c.settle.new.self c.append.new.progress c.settle.ensures.fired c.settle.ensures.records c.append.ensures.appended;
-      missing = missing-after t ok a (allowed k) hands moved c.settle.new.self c.append.new.progress c.settle.ensures.fired c.settle.ensures.records c.append.ensures.appended
+      table = table-after t ok a (allowed k) hands moved c.settle.new.self c.append.new.progress c.settle.ensures.fired c.settle.ensures.records
+          c.append.ensures.appended;
+      progress = progress-after t ok a (allowed k) hands moved c.settle.new.self c.append.new.progress c.settle.ensures.fired c.settle.ensures.records
+          c.append.ensures.appended;
+      missing = missing-after t ok a (allowed k) hands moved c.settle.new.self c.append.new.progress c.settle.ensures.fired c.settle.ensures.records
+          c.append.ensures.appended
           c.participants-participants.result (participants k);
     }

@@ -20,7 +20,8 @@ invariant_of-self c =
     let k = (goal.at.invariant_of-self c).After-participants-participants in
     let ok = c.self.invariant in
     record {
-      table = takes_up (table_in c.self.inside) ok.table c.args.a.0 c.args.by (own k) (ap (λ (x : TableState). hand x.hands c.args.a.0) c.self.view_is ∙ c.requires.free);
+      table = takes_up (table_in c.self.inside) ok.table c.args.a.0 c.args.by (own k)
+          (ap (λ (x : TableState). hand x.hands c.args.a.0) c.self.view_is ∙ c.requires.free);
       progress = ok.progress;
       missing = ok.missing;
     }
@@ -29,5 +30,7 @@ pub returns-clause-locals : goal.returns-clause-locals
 returns-clause-locals c =
     let k = (goal.at.returns-clause-locals c).After-participants-participants in
     let t = c.self.inside in
-    subst (λ (x : TableState). AreLocalsAfter x.given.dfa x.state.journal (loc_of x.given.dfa.alphabet c.args.a.0) c.gather_into.new.bench.locals) c.self.view_is
-    (subst (λ (ps : List ℕ). AreLocalsAfter t.shared.dfa (state_in t).journal ps c.gather_into.new.bench.locals) (participants k) (c.gather_into.ensures.after (state_in t).journal c.self.invariant.table.locals))
+    subst (λ (x : TableState). AreLocalsAfter x.given.dfa x.state.journal (loc_of x.given.dfa.alphabet c.args.a.0) c.gather_into.new.bench.locals)
+    c.self.view_is
+    (subst (λ (ps : List ℕ). AreLocalsAfter t.shared.dfa (state_in t).journal ps c.gather_into.new.bench.locals) (participants k)
+    (c.gather_into.ensures.after (state_in t).journal c.self.invariant.table.locals))

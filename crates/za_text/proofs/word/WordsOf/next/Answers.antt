@@ -10,7 +10,8 @@ returns-then-len-eq0 c = let text = c.self.inside.text.now in let at = c.self.in
 
 pub returns : goal.returns
 returns c = let text = c.self.inside.text.now in let at = c.self.inside.at in record {
-  first = let e = word_from text at c.gap_len.result c.word_len-len.result (grind (arith, common_steps)) (grind (arith, common_steps)) (omega arith) in grind (arith, common_steps);
+  first = let e = word_from text at c.gap_len.result c.word_len-len.result (grind (arith, common_steps)) (grind (arith, common_steps)) (omega arith) in
+      grind (arith, common_steps);
   text = search rules;
   line = search rules;
   of_line = search rules;

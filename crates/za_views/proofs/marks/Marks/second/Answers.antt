@@ -13,4 +13,5 @@ latest_in-requires-clause-within c =
 pub returns : goal.returns
 returns c =
     let marked = kept-marked c.self.invariant c.self.view_is c.as_slice.ensures.value in
-    c.latest_in.ensures ∙ ap (option_and_then (λ e. known c.as_slice.result.now e c.args.r)) c.latest.ensures ∙ second-is marked c.args.p c.args.q c.args.r c.requires.third
+    c.latest_in.ensures ∙ ap (option_and_then (λ e. known c.as_slice.result.now e c.args.r)) c.latest.ensures
+    ∙ second-is marked c.args.p c.args.q c.args.r c.requires.third

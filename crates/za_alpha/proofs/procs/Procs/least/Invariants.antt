@@ -1,8 +1,0 @@
-use Rattle.std.proofs.Common.{◌≡◌, ℕ, ◌<◌, false}
-use Rattle.za_alpha.specs.Words.{has}
-use Rattle.za_alpha.specs.Procs.{members}
-use Rattle.za_alpha.proofs.procs.Procs.least.Given as goal
-
--- no process so far is in the set
-abbrev pub invariant-loop-p : goal.invariant-loop-p
-invariant-loop-p l = (q : ℕ) → q < l.p → has (members l.self) q ≡ false

@@ -1,0 +1,4 @@
+pub mod Judged
+pub mod Replies
+pub mod Laws
+pub mod Private
