@@ -49,7 +49,7 @@ def commands(reference, man):
     forms = [form.split() for part in parts for form in part.split("|")]
     job = read("examples/lock.zla").encode()
     for form in forms:
-        words = ["3" if word == "N" else word for word in form]
+        words = ["3" if word in ("N", "K") else word for word in form]
         is_known = zla(words, job)[0] != USAGE
         want(is_known and form[0] in shown, "REFERENCE.md and the program differ on the command " + form[0])
     want(re.findall(r"^\.B zla (\w+)", man, re.M) == shown, "zla.1 has other commands in its synopsis")
@@ -57,7 +57,7 @@ def commands(reference, man):
     shell = '. tools/zla.bash; COMP_WORDS=(zla ""); COMP_CWORD=1; _zla; echo "${COMPREPLY[*]}"'
     run = subprocess.run(["bash", "-c", shell], cwd=TOP, capture_output=True, text=True)
     want(run.stdout.split() == shown and not run.stderr, "zla.bash completes other commands: " + run.stdout + run.stderr)
-    asked = [command for command, rest in rows if "< JOB" in rest]
+    asked = [command for command, rest in rows if rest == " < JOB"]
     for command in asked:
         want(zla([command, "--cache", "64"], job)[0] == zla([command], job)[0], "--cache changes the status of " + command)
     return asked
@@ -76,6 +76,10 @@ def statuses(reference, man):
 def lines_of_a_job(reference, man):
     """The grammar has the lines of the second reading, in their order."""
     productions = re.findall(r'^    \w+ += "(\w+)"', reference, re.M)
+    expression = [name for firsts in second_reading.EXPRESSION_PLACES[: second_reading.JOB_ENDS] for name in firsts]
+    others = {name.decode() for name in expression} - set(productions)
+    want(not others, "the grammar of REFERENCE.md lacks lines of a document with an expression: %s" % sorted(others))
+    productions.remove("expr")
     places = second_reading.PLACES[: second_reading.JOB_ENDS]
     known = {name.decode() for firsts in places for name in firsts}
     want(sorted(productions) == sorted(known), "the grammar of REFERENCE.md has other lines")
@@ -116,6 +120,8 @@ def answers(reference, asked):
         said = [zla([command], text)[1] for command in asked]
         if said[asked.index("journal")].startswith("claim "):
             said += [zla(["audit"], text + claim.encode())[1] for claim in claims(text)]
+            said.append(re.sub(r"^.*(?=^cut )", "", zla(["freeze", "2"], text)[1], flags=re.M | re.S))
+            said.append(zla(["news"], text + b"readings\nend\n")[1])
         for line in "".join(said).splitlines():
             fits = {form for form, pattern in patterns.items() if pattern.fullmatch(line)}
             want(fits, "no line of REFERENCE.md's table is like: " + line)

@@ -1,13 +1,14 @@
 #!/usr/bin/env python3
 """tools/explain, tools/draw and tools/product over the texts that the second reading is compared on, in both versions of
-documents, a text for each kind of refusal, some that are rejected, and journals, right and wrong.
+documents, a text for each kind of refusal, some that are rejected, and journals, right and wrong; tools/explain also over
+documents with an expression, readings and frozen texts.
 
     checks/tools.py [--long]     --long takes every example with each of its changes, and 12,000 jobs drawn at random for 300
 
 What is wanted: an explanation begins with the first line of the answer, and names a line for each answer that is no
 accept; each kind of refusal that docs/FORMATS.md lists is met. A chart has in the column of each process the events that
 it takes part in, in their order, and that of a journal a row for each event. A product takes a word exactly if both rules
-do, and joins processes by their names. The small rules of docs/RULES.md take what they say.
+do, and joins processes by their names. The small rules and the small expressions of docs/RULES.md take what they say.
 """
 import os
 import random
@@ -20,6 +21,7 @@ TOP = os.path.dirname(os.path.dirname(os.path.abspath(__file__)))
 sys.path[:0] = [os.path.join(TOP, "tools"), os.path.join(TOP, "checks")]
 sys.dont_write_bytecode = True
 import compare  # noqa: E402
+import further  # noqa: E402
 import journals  # noqa: E402
 import second_reading  # noqa: E402
 
@@ -102,6 +104,9 @@ REFUSED = [
     (NAMED.replace(b"script left a\n", b""), None),
     (JOB.replace(b"processes 2", b"processes left right"), "version 2 has names of processes"),
     (JOB + b"claim accept\nend\n", "tools/explain --audit"),
+    (JOB + b"readings\nend\n", "tools/explain --news"),
+    (JOB + b"cut 0\n", "tools/explain --thaw"),
+    (JOB.replace(b"zla 1", b"zla expr"), "tools/explain --build"),
 ]
 # the same of texts with a claim
 EVENTS = b"claim accept\nfire a.0\nend\n"
@@ -121,6 +126,70 @@ CLAIMED = [
     (NAMED + EVENTS.replace(b"a.0", b"a.9"), "a label from 0 to 8"),
     (NAMED + EVENTS.replace(b"a.0", b"a .0"), "a space in `LETTER.LABEL`"),
     (NAMED.replace(b"accept 1", b"accept 2") + EVENTS, "counted from 0"),
+]
+# the same of documents with an expression
+EXPRESSION = b"zla expr\nprocesses left right\nletter a left\nletter b left right\nexpr %s\nscript left a\nend\n"
+UNBUILT = [
+    (NAMED, "a job with a table, of which nothing has to be built"),
+    ((EXPRESSION % b"a").replace(b"expr\n", b"expr 2\n", 1), "has no version"),
+    ((EXPRESSION % b"a").replace(b"expr a\n", b""), "`expr` line comes before it: it is missing"),
+    ((EXPRESSION % b"a").replace(b"expr a\n", b"states 2\n"), "the `expr` line stands in place of all of them"),
+    ((EXPRESSION % b"a").replace(b"script left a\n", b"expr b\n"), "line 5 has it already"),
+    ((EXPRESSION % b"a").replace(b"expr a\n", b"expr\n"), "of the empty word alone it is `1`"),
+    (EXPRESSION % b" ".join([b"a"] * 65), "at most 64 words"),
+    (EXPRESSION % b"( a | b ) * a ( a | b ) ( a | b ) ( a | b ) ( a | b ) ( a | b ) ( a | b ) ( a | b )", "more than 128 states"),
+    (EXPRESSION % b"a* b", "a space is missing: each letter and each sign is a word of its own, `a *`"),
+    (EXPRESSION % b"a ? b", "an A that may be left out is `( 1 | A )`"),
+    (EXPRESSION % b"a*2", "an item of scripts"),
+    (EXPRESSION % b"A b", "`a` is misspelled"),
+    (EXPRESSION % b"go b", "a letter line is missing"),
+    (EXPRESSION % b"a |", "what belongs after `|` is missing"),
+    (EXPRESSION % b"( a", "`(` isn't closed that is word 1"),
+    (EXPRESSION % b"( a & b )", "stand in no parentheses"),
+    (EXPRESSION % b"a { b }", "braces group whole forms"),
+    (EXPRESSION % b"a ! b", "A that isn't B is `A & ! B`"),
+    (EXPRESSION % b"{ a } *", "a form can't be repeated"),
+    (EXPRESSION % b"{ a } | b", "`|` joins parts without"),
+    (EXPRESSION % b"{ a } b", "forms are joined by `&` alone"),
+    (EXPRESSION % b"* a", "no expression begins with `*`"),
+    (EXPRESSION % b"a )", "closes nothing"),
+    (EXPRESSION % b"( )", "nothing stands before it"),
+    (EXPRESSION % b"{ ( a }", "`(` is open, and is closed first"),
+    (EXPRESSION % b"a | | b", "two signs follow one another"),
+    ((EXPRESSION % b"a").replace(b"script left a", b"script right a"), "has to name process right too"),
+    (EXPRESSION % b"a" + b"cut 0\n", "two jobs in one file"),
+]
+# the same of jobs with readings
+READINGS = b"readings\nread left 7\nend\n"
+UNREAD = [
+    (NAMED, "no readings follow it"),
+    (NAMED + READINGS[:-4], "its last line isn't `end`"),
+    (NAMED + READINGS + READINGS, "two texts in one file"),
+    (NAMED + READINGS.replace(b"read left 7", b"script left a"), "the job has ended at line 10"),
+    (NAMED + READINGS.replace(b"read left 7", b"raed left 7"), "`read` is misspelled"),
+    (NAMED + READINGS.replace(b"read left 7", b"readings"), "stands once, above all `read` lines"),
+    (NAMED + READINGS.replace(b"read left 7", b"read"), "one that reads nothing needs no line"),
+    (NAMED + READINGS.replace(b"read left 7", b"read 0 7"), "they have names alone"),
+    (JOB + READINGS.replace(b"read left 7", b"read 2 7"), "counted from 0"),
+    (NAMED + READINGS.replace(b"7", b"7.5"), "a word, a fraction or a unit"),
+    (NAMED + READINGS.replace(b"7", b"-7"), "a sign"),
+    (NAMED + b"readings", "no line feed follows it"),
+    (NAMED.replace(b"accept 1", b"accept 2") + READINGS, "counted from 0"),
+]
+# the same of frozen texts
+FROZEN = NAMED + b"script right\n"  # the printed form, with a script line for each process
+FROZEN = FROZEN.replace(b"end\nscript right\n", b"script right\nend\n") + b"cut 1\nat left 1 a.0 - view 1\nat right 0 - - view 0\nend\n"
+UNTHAWED = [
+    (NAMED, "it is a job and no frozen text"),
+    (FROZEN.replace(b"cut 1", b"cut"), "a word is missing"),
+    (FROZEN.replace(b"cut 1", b"cut all"), "a word, a fraction or a unit"),
+    (FROZEN.replace(b"cut 1", b"cut 2"), "a number from 0 to 1"),
+    (FROZEN.replace(b"left 1 a.0", b"left 0 a.0"), "`at left 1 a.0 - view 1`"),
+    (FROZEN.replace(b"cut 1", b"cut 0"), "`at left 0 - - view 0`"),
+    (FROZEN.replace(b"script right\n", b""), "without comments"),
+    (FROZEN + b"end\n", "the frozen text has ended"),
+    (FROZEN[:-4], "not the frozen text"),
+    (FROZEN.replace(b"accept 1", b"accept 2"), "counted from 0"),
 ]
 # the same of claims that aren't right
 UNRIGHT = [
@@ -156,9 +225,12 @@ def kinds():
 def explanation(text, command="solo"):
     """The explanation of a text, which begins with its answer."""
     lines = explain.explain(text, command)
-    answer = second_reading.answer(command, text)[1].decode().splitlines()[0]
-    want(lines[0] == answer, "explain answers " + lines[0], text)
-    is_right = answer == "accept" or answer.startswith("audit yes")
+    status, said = second_reading.answer(command, text)
+    answer = said.decode().splitlines()[0]
+    if command == "build" and status == 0:
+        answer = "built, "
+    want(lines[0].startswith(answer), "explain answers " + lines[0], text)
+    is_right = status == 0
     is_named = is_right or len(text) > second_reading.MOST_BYTES or re.search(r"\bline", "\n".join(lines), re.I)
     want(is_named, "no line is named", text)
     return "\n".join(lines)
@@ -166,7 +238,13 @@ def explanation(text, command="solo"):
 
 def refusals():
     met = set()
-    for texts, command in ((REFUSED, "solo"), (CLAIMED, "audit")):
+    for texts, command in (
+        (REFUSED, "solo"),
+        (CLAIMED, "audit"),
+        (UNBUILT, "build"),
+        (UNREAD, "news"),
+        (UNTHAWED, "thaw"),
+    ):
         for text, said in texts:
             told = explanation(text, command)
             met.add(told.splitlines()[0].partition(": ")[2])
@@ -300,11 +378,57 @@ def small_rules():
                     want(dfa.accepts(word) == right, "'%s' is wrong on %s" % (name, word), text)
 
 
+# of each small expression of docs/RULES.md what it says of a word over a, b and c
+SMALL_EXPRESSIONS = {
+    "b only after a first a": lambda w: "b" not in w or "a" in w[: w.index("b")],
+    "a and b take turns, a first": lambda w: w.replace("c", "") == ("ab" * len(w))[: len(w) - w.count("c")],
+    "each a is answered by one b before the next a, and at the end": lambda w: w.replace("c", "") == "ab" * w.count("b"),
+    "after each a there is a b at some time": lambda w: w.rfind("a") <= w.rfind("b"),
+    "no b after an a": lambda w: "a" not in w or w.rfind("b") < w.index("a"),
+    "no b directly after an a": lambda w: "ab" not in w,
+    "b is the last": lambda w: w.endswith("b"),
+    "at most two a": lambda w: w.count("a") <= 2,
+    "an even number of a": lambda w: w.count("a") % 2 == 0,
+    "never a and b both": lambda w: "a" not in w or "b" not in w,
+    "taking turns, and at most two a": lambda w: w.replace("c", "") == "ab" * w.count("b") and w.count("a") <= 2,
+}
+# where they can be kept: the processes of a, b and c, there and where less is shared
+KEPT = {
+    "always": ("letter a p\nletter b q\nletter c r\n", None),
+    "a and b share a process": ("letter a p\nletter b p q\nletter c r\n", "letter a p\nletter b q\nletter c p q\n"),
+    "b shares a process with each letter": ("letter a p\nletter b p q\nletter c q\n", "letter a p\nletter b p\nletter c q\n"),
+    "each two letters share a process": ("letter a p q\nletter b q r\nletter c p r\n", "letter a p\nletter b p q\nletter c q\n"),
+}
+
+
+def small_expressions():
+    """The table of small expressions: each takes the words that it says, and can be kept where it says so."""
+    with open(os.path.join(TOP, "docs", "RULES.md"), encoding="utf-8") as file:
+        rows = re.findall(r"^\| ([^|]+) \| `((?:\\\||[^`|])+)` \| ([^|]+) \|$", file.read(), re.M)
+    rows = [(name, form.replace("\\|", "|"), where) for name, form, where in rows if where in KEPT]
+    want({name for name, _, _ in rows} == set(SMALL_EXPRESSIONS), "docs/RULES.md has other small expressions", b"")
+    for name, form, where in rows:
+        for is_kept, letters in zip((True, False), KEPT[where]):
+            if letters is None:
+                continue
+            text = ("zla expr\nprocesses p q r\n%sexpr %s\nend\n" % (letters, form)).encode()
+            job = second_reading.read_expression(text)
+            dfa = second_reading.completed(job)
+            found = second_reading.least_break(job, second_reading.minimal(dfa))
+            want((found is None) == is_kept, "'%s' can be kept: %s" % (name, found is None), text)
+            for length in range(7):
+                for number in range(3**length):
+                    word = [number // 3**i % 3 for i in range(length)]
+                    right = SMALL_EXPRESSIONS[name]("".join("abc"[a] for a in word))
+                    want(dfa.accepts(word) == right, "'%s' is wrong on %s" % (name, word), text)
+
+
 def main():
     is_long = sys.argv[1:] == ["--long"]
     refusals()
     rejected()
     small_rules()
+    small_expressions()
     told = charted = 0
     try:
         product.product(second_reading.read(JOB), second_reading.read(NAMED))
@@ -318,11 +442,16 @@ def main():
         if explanation(text).startswith(("accept", "reject", "stuck")):
             charts(text)
             charted += 1
+    for at, (words, text) in enumerate(further.cases(is_long)):
+        if words in ("build", "news", "thaw") and at % (3 if is_long else 4) == 0:
+            told += 1
+            explanation(text, words)
     for number in range(1000 if is_long else 100):
         products(number)
     for line in failed[:20]:
         print("tools: " + line)
-    print("tools: %d texts explained, %d drawn, %d wrong" % (told + len(REFUSED) + len(CLAIMED) + len(REJECTED) + len(UNRIGHT), charted, len(failed)))
+    told += sum(map(len, (REFUSED, CLAIMED, REJECTED, UNRIGHT, UNBUILT, UNREAD, UNTHAWED)))
+    print("tools: %d texts explained, %d drawn, %d wrong" % (told, charted, len(failed)))
     return 1 if failed else 0
 
 

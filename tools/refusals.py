@@ -4,6 +4,7 @@ Unproved, over tools/second_reading.py.
 import re
 from typing import Callable, Dict, List, NamedTuple, Optional, Tuple
 
+import expressions
 import second_reading
 from second_reading import Refused, Token
 from sentences import Lines, listed, nearest, paragraph, processes, quoted
@@ -22,6 +23,10 @@ FORMS = {
 # where they differ in version 2
 NAMED_FORMS = {b"zla": "zla 2", b"processes": "processes NAME ..", b"script": "script PROCESS LETTER*COUNT .."}
 CLAIM_FORMS = {b"claim": "claim ANSWER", b"fire": "fire LETTER.LABEL", b"end": "end"}
+EXPRESSION_FORMS = {b"zla": "zla expr", b"processes": "processes NAME ..", b"letter": "letter NAME PROCESS .."}
+EXPRESSION_FORMS.update({b"expr": "expr WORD ..", b"script": "script PROCESS LETTER*COUNT ..", b"end": "end"})
+READING_FORMS = {b"readings": "readings", b"read": "read PROCESS NUMBER ..", b"end": "end"}
+CUT_FORMS = {b"cut": "cut NUMBER"}
 COMMENTS = (b"#", b"//", b"--", b";", b"%", b"/*", b"(*")
 SHOWN = 110  # columns of a long line that are shown
 
@@ -43,10 +48,20 @@ class At(NamedTuple):
     text: bytes
 
     def forms(self) -> Dict[bytes, str]:
-        """The forms of the lines of a job, or of a claim where the fault is in one."""
+        """The forms of the lines of a job, or of what follows one where the fault is there."""
+        if self.fault.place >= second_reading.AT_CUT:
+            return CUT_FORMS
+        if self.fault.place >= second_reading.AT_READINGS:
+            return READING_FORMS
         if self.fault.place >= second_reading.JOB_ENDS:
             return CLAIM_FORMS
+        if self.is_expression():
+            return EXPRESSION_FORMS
         return FORMS if self.fault.job.version == 1 else {**FORMS, **NAMED_FORMS}
+
+    def is_expression(self) -> bool:
+        """Whether the text is read as a document with an expression."""
+        return self.fault.job.places is second_reading.EXPRESSION_PLACES
 
     def form(self) -> str:
         """The form of the line."""
@@ -90,58 +105,88 @@ def cut(_: At) -> Told:
 
 
 def no_end(at: At) -> Told:
-    may = (quoted(at.forms()[word]) for word in second_reading.PLACES[at.fault.place])
+    may = (quoted(at.forms()[word]) for word in at.fault.job.places[at.fault.place])
     said, cause = "the text ends, and its last line isn't `end`", "the last line was forgotten, or a copy was cut off"
     if at.fault.place == second_reading.JOB_ENDS:
         said, cause = "the text ends with the job, and no claim follows it", "the journal was forgotten: `cat JOB JOURNAL`"
+    elif at.fault.place == second_reading.AT_READINGS:
+        said = "the text ends with the job, and no readings follow it"
+        cause = "the readings were forgotten: a line `readings`, a line `read` for each process that reads something, and `end`"
+    elif at.fault.place == second_reading.AT_CUT:
+        said = "the text ends with the job, and no `cut` line follows it"
+        cause = "it is a job and no frozen text: `./zla freeze K < JOB` writes one, and `./zla run < JOB` runs the job"
     elif at.fault.place == 0:
         said, cause = "the text has no words at all", "an empty file, or a command before a `|` that failed and wrote nothing"
     return Told(said, listed(may, "or"), cause)
 
 
+# what may follow a job, by its first word, and who reads it
+FOLLOWERS = {
+    b"claim": "a journal follows the job: `./zla audit` and `tools/explain --audit` read both",
+    b"readings": "readings follow the job: `./zla news` and `tools/explain --news` read both",
+    b"cut": "this is a frozen text: `./zla thaw` and `tools/explain --thaw` read it",
+}
+
+
 def trailing(at: At) -> Told:
-    job = at.fault.job
-    said = "the %s has ended at line %d" % ("claim" if job.claimed else "job", job.lines[b"end"])
-    cause = "two %s in one file, or a line that belongs above `end`" % ("journals" if job.claimed else "jobs")
-    if not job.claimed and at.words[0] == b"claim":
-        cause = "a journal follows the job: `./zla audit` and `tools/explain --audit` read both"
-    return Told(said, "empty lines alone", cause)
+    job, place = at.fault.job, at.fault.place
+    what, many = "job has", "jobs"
+    if place == second_reading.READINGS_END:
+        what, many = "readings have", "texts"
+    elif job.claimed:
+        what, many = "claim has", "journals"
+    cause = "two %s in one file, or a line that belongs above `end`" % many
+    if place == second_reading.JOB_ENDS and not at.is_expression():
+        cause = FOLLOWERS.get(bytes(at.words[0]), cause)
+    return Told("the %s ended at line %d" % (what, job.lines[b"end"]), "empty lines alone", cause)
 
 
 def header(at: At) -> Told:
-    may = "`zla 1` or `zla 2`, before all other lines"
-    if at.words[0] == b"zla":
-        return Told("the header has another version, or more words", may, "there are versions 1 and 2 alone")
-    said = "the first line that isn't empty has to be the header"
-    return Told(said, may, "the header is missing, or something stands above it")
+    may = "`zla expr`, before all other lines" if at.is_expression() else "`zla 1` or `zla 2`, before all other lines"
+    if at.words[0] != b"zla":
+        said = "the first line that isn't empty has to be the header"
+        return Told(said, may, "the header is missing, or something stands above it")
+    said = "the header has another version, or more words"
+    if at.is_expression() and at.words[1:] in ([b"1"], [b"2"]):
+        return Told(said, may, "it is a job with a table, of which nothing has to be built")
+    if at.words[1:] == [b"expr"]:
+        cause = "a document with an expression: `./zla build` makes a job of it, and `tools/explain --build` reads it"
+        return Told(said, may, cause)
+    if at.is_expression():
+        return Told(said, may, "a document with an expression has no version: it is read as version 2 is")
+    return Told(said, may, "there are versions 1 and 2 alone")
 
 
 def out_of_order(at: At) -> Told:
     first, job, place, forms = at.words[0], at.fault.job, at.fault.place, at.forms()
     said = "no line that begins with %s may stand here" % quoted(first)
-    may = listed((quoted(forms[word]) for word in second_reading.PLACES[place]), "or")
+    may = listed((quoted(forms[word]) for word in job.places[place]), "or")
+    if first not in forms and first in FORMS and at.is_expression():
+        return Told(said, may, "a line of a table: in this document the `expr` line stands in place of all of them")
     if first not in forms:
         meant = nearest(first, forms)
         if meant:
             return Told(said, may, "%s is misspelled" % quoted(meant))
-        if forms is CLAIM_FORMS:
+        if forms is CLAIM_FORMS or (forms is READING_FORMS and first in FORMS):
             return Told(said, may, "a line of a job; the job has ended at line %d" % job.lines[b"end"])
         firsts = listed(map(quoted, forms))
         return Told(said, may, "the line's first word is missing; each line begins with one of " + firsts)
     if forms is CLAIM_FORMS:
         cause = "the `claim` line is missing" if job.claimed is None else "a claim has one answer"
         return Told(said, may, cause)
-    places = second_reading.PLACES[: second_reading.JOB_ENDS]
+    if forms is READING_FORMS:
+        return Told(said, may, "the line `readings` stands once, above all `read` lines")
+    places = job.places[: second_reading.JOB_ENDS]
     mine = [number for number, firsts in enumerate(places) if first in firsts]
     if min(mine) > place:
-        missing = list(second_reading.PLACES[place])[-1]
+        missing = list(job.places[place])[-1]
         firsts = [line.split()[:1] for line in at.text.split(b"\n")]
         later = next((i + 1 for i in range(at.fault.line, len(firsts)) if firsts[i] == [missing]), None)
         where = "it stands too far down, at line %d" % later if later else "it is missing"
         return Told(said, may, "the %s line comes before it: %s" % (quoted(missing), where))
     if first in job.lines and first not in (b"letter", b"row"):
         return Told(said, may, "line %d has it already, and it stands once" % job.lines[first])
-    after = next(word for word in second_reading.PLACES[max(mine)] if word != first)
+    after = next(word for word in job.places[max(mine)] if word != first)
     if after not in job.lines:
         return Told(said, may, "the line stands too far down: move it up")
     below = "the first script line" if after == b"script" else "line %d, %s" % (job.lines[after], quoted(after))
@@ -169,13 +214,18 @@ def word_count(at: At) -> Told:
     elif first in (b"processes", b"states") and count > 2:
         cause = "names or a list; the line says how many there are, and they are numbered from 0"
         cause += "; version 2 has names of processes (`zla 2`)" * (first == b"processes")
+    elif first == b"expr":
+        cause = "the expression is missing; of the empty word alone it is `1`"
+    elif first == b"read":
+        cause = "the process is missing; one that reads nothing needs no line"
     elif first == b"fire" and count > 2:
         cause = "a space in `LETTER.LABEL`, or several events in one line"
     return Told(said, quoted(at.form()), cause)
 
 
 def comment(at: At) -> Optional[Token]:
-    return next((word for word in at.words if word.startswith(COMMENTS)), None)
+    signs = (b"#", b"//") if at.words[:1] == [b"expr"] else COMMENTS
+    return next((word for word in at.words if word.startswith(signs)), None)
 
 
 # ---- numbers and names ----
@@ -195,6 +245,8 @@ def role(at: At) -> str:
         b"accept": "a state that is accepted",
         b"script": "the process whose script it is",
         b"fire": "the label of an event",
+        b"read": "a number that the process reads",
+        b"cut": "after how many events the job is frozen",
     }[first]
 
 
@@ -213,6 +265,8 @@ def bad_number(at: At) -> Told:
         cause = "a sign"
     elif re.search(rb"[0-9][,;:]|[,;:][0-9]", token):
         cause = "a comma or a colon; between the words of a line stand spaces or tabs alone"
+    elif at.words[0] in (b"read", b"cut"):
+        cause = "a word, a fraction or a unit: here stand whole numbers alone, from 0 to 4294967295"
     else:
         cause = "a name stands for a number; states and processes have numbers alone, from 0"
     return Told(said, "a number: digits alone, without a sign and without a leading 0", cause)
@@ -313,6 +367,8 @@ def letters_of(at: At, p: int) -> str:
 def no_such_letter(at: At) -> Told:
     token, job = at.fault.token, at.fault.job
     names = [name for name, _ in job.letters]
+    if at.words[0] == b"expr":
+        return no_such_sign(token, [bytes(name) for name in names])
     said = "no letter line names " + quoted(token)
     may = "a letter: " + listed((name.decode() for name in names), "or")
     if at.words[0] == b"script":
@@ -359,6 +415,132 @@ def not_of_process(at: At) -> Told:
 def scripts_full(_: At) -> Told:
     cause = "the scripts are longer than a document may have them"
     return Told("65536 script letters stand above", "no letter", cause)
+
+
+# ---- expressions ----
+
+
+# how others write what is written otherwise here
+OTHERS = {
+    b"+": "one or more of A is `A A *`; one of A and B is `A | B`",
+    b"?": "an A that may be left out is `( 1 | A )`",
+    b".": "any letter is written out: `( a | b )`; words follow one another without a sign",
+    b",": "words follow one another without a sign",
+    b"||": "one of A and B is `A | B`",
+    b"&&": "both A and B is `A & B`",
+    b"~": "every word but those of A is `! A`",
+    b"-": "the words of A that aren't of B are `A & ! B`",
+    b"0": "the empty word is `1`; no word at all is `A & ! A`",
+    b"eps": "the empty word is `1`",
+    b"epsilon": "the empty word is `1`",
+    b"and": "both A and B is `A & B`",
+    b"or": "one of A and B is `A | B`",
+    b"not": "every word but those of A is `! A`",
+}
+SIGNS = "`1`, `(`, `)`, `{`, `}`, `|`, `*`, `&` and `!`"
+
+
+def no_such_sign(token: Token, names: List[bytes]) -> Told:
+    said = "%s is no sign of expressions, and no letter line names it" % quoted(token)
+    may = "a letter: %s; or one of the signs %s" % (listed((name.decode() for name in names), "or"), SIGNS)
+    pieces = re.findall(rb"\w+|[^\w]", token)
+    meant = nearest(token, names)
+    if len(pieces) > 1 and all(piece in names or piece in expressions.SIGNS for piece in pieces):
+        cause = "a space is missing: each letter and each sign is a word of its own, `%s`" % b" ".join(pieces).decode()
+    elif token in OTHERS:
+        cause = OTHERS[bytes(token)]
+    elif re.match(rb"\w+\*\d+\Z", token):
+        cause = "`NAME*COUNT` is an item of scripts; in an expression a letter is written as often as it comes"
+    elif meant:
+        cause = "%s is misspelled" % quoted(meant)
+    else:
+        cause = "a letter line is missing; they stand above `expr`"
+    return Told(said, may, cause)
+
+
+def still_open(words: List[Token]) -> Optional[Token]:
+    """The last parenthesis or brace that isn't closed."""
+    opened: List[Token] = []
+    for word in words:
+        if word in (b"(", b"{"):
+            opened.append(word)
+        elif word in (b")", b"}") and opened:
+            opened.pop()
+    return opened[-1] if opened else None
+
+
+def why_no_form(words: List[Token], at: int) -> str:
+    """The usual cause of a form that doesn't go on at a word."""
+    word = words[at] if at < len(words) else None
+    last, opened = words[at - 1] if at else None, still_open(words[:at])
+    if word is None and last in (b"|", b"&", b"!", b"(", b"{"):
+        return "what belongs after %s is missing; the empty word is `1`" % quoted(last)
+    if word is None:
+        return "the %s isn't closed that is word %d after `expr`" % (quoted(opened), words.index(opened) + 1)
+    if word in (b"&", b"!") and opened == b"(":
+        return "`&` and `!` join whole forms and stand in no parentheses; braces group forms: `{ A & B }`"
+    if word == b"{":
+        return "braces group whole forms, at the beginning or after `&` or `!`; parts of words are grouped by `(` and `)`"
+    if word == b"!":
+        return "`!` stands before a whole form, at the beginning or after `&`: A that isn't B is `A & ! B`"
+    if word == b"*" and last == b"}":
+        return "a form can't be repeated: `*` follows a letter, `1` or `)`"
+    if word == b"|" and last == b"}":
+        return "`|` joins parts without `&` and `!` alone; A or B of any forms is `! { ! { A } & ! { B } }`"
+    if last == b"}":
+        return "forms are joined by `&` alone"
+    if word == b"*":
+        return "`*` stands after what is repeated"
+    if word in (b")", b"}") and not opened:
+        return "%s closes nothing: one is too many, or its beginning is missing" % quoted(word)
+    if word in (b")", b"}") and last in (b"(", b"{", b"|", b"&", b"!"):
+        return "nothing stands before it; the empty word is `1`"
+    if word in (b")", b"}"):
+        return "%s is open, and is closed first" % quoted(opened)
+    return "two signs follow one another, and what belongs between them is missing; the empty word is `1`"
+
+
+def bad_expression(at: At) -> Told:
+    words, token = at.words[1:], at.fault.token
+    place = len(words) if token is None else next(i for i, word in enumerate(words) if word.column == token.column)
+    said = "the line ends, and the expression isn't whole" if token is None else "no expression that begins so goes on with %s" % quoted(token)
+    if place == 0:
+        said = "no expression begins with %s" % quoted(token)
+    return Told(said, listed(at.fault.may, "or"), why_no_form(words, place))
+
+
+def expression_full(at: At) -> Told:
+    said = "the expression has %d words" % (len(at.words) - 1)
+    cause = "a rule of many parts: write small ones, build a job of each, and join the jobs by `tools/product`"
+    return Told(said, "at most 64 words after `expr`; each letter and each sign is one", cause)
+
+
+def expression_states(_: At) -> Told:
+    cause = (
+        "a choice of many letters before a long end, as `( a | b ) * a ( a | b ) ( a | b )`, of which the last letters have to be "
+        "remembered one by one; or several such parts under `&`, whose numbers multiply"
+    )
+    said = "the expression would have a table of more than 128 states: so many sets of places may the last letter have"
+    return Told(said, "an expression of at most 128 position values", cause)
+
+
+# ---- frozen texts ----
+
+
+def no_such_cut(at: At) -> Told:
+    fired = len(second_reading.weave(at.fault.job)[0])
+    said = "the scripts fire %d letters, and not %s" % (fired, at.fault.token.decode())
+    return Told(said, "a number from 0 to %d" % fired, "the number or a script was changed after the job was frozen")
+
+
+def not_own(at: At) -> Told:
+    cut = at.fault.job.lines[b"cut"]
+    said = "the line isn't that of the frozen text of this job after %d events" % at.fault.job.cut
+    may = quoted(at.fault.may[0]) if at.fault.may else "no line: the frozen text has ended"
+    if at.fault.line < cut:
+        return Told(said, may, "the job isn't in its printed form; `./zla freeze` prints it so, without comments")
+    cause = "the text was changed after it was frozen, here or in a script, or in the number after `cut` (line %d)" % cut
+    return Told(said, may, cause)
 
 
 # ---- claims ----
@@ -416,9 +598,15 @@ KINDS: Dict[str, Callable[[At], Told]] = {
     "more than 65536 events": claim_full,
     "bad event": bad_event,
     "no such label": no_such_label,
+    "header is not zla expr": header,
+    "more than 64 expression words": expression_full,
+    "bad expression": bad_expression,
+    "more than 128 states": expression_states,
+    "no such cut": no_such_cut,
+    "not the frozen text": not_own,
 }
 # of these a comment is no likely cause, and what is wrong may be no token
-NOT_OF_TOKENS = ("line is cut", "bad byte", "end is missing", "letter without process")
+NOT_OF_TOKENS = ("line is cut", "bad byte", "end is missing", "letter without process", "not the frozen text")
 
 
 def told_of(at: At) -> Told:
@@ -428,7 +616,7 @@ def told_of(at: At) -> Told:
     if at.fault.place == 0:
         may = "no comment here: the header comes first, and after it version 2 alone has comments"
         cause = "a comment above the header; move it below `zla 2`"
-    elif at.fault.job.version == 2:
+    elif at.fault.job.version == 2 or at.is_expression():
         may = "no comment here: a comment is a line of its own that begins with `#`"
         cause = "a comment after something else in its line, or one that begins otherwise"
     else:
@@ -441,8 +629,12 @@ def marked(at: At) -> Tuple[int, int]:
     """Where in its line the wrong part begins, and how long it is."""
     if at.fault.kind == "bad byte":
         return wrong_byte(at.line), 1
-    if at.fault.kind == "line is cut":
+    if at.fault.kind == "line is cut" or (at.fault.kind == "bad expression" and at.fault.token is None):
         return len(at.line), 1
+    if at.fault.kind == "not the frozen text":
+        own = at.fault.may[0].encode().split() if at.fault.may else []
+        other = next((word for i, word in enumerate(at.words) if own and own[i : i + 1] != [word]), None)
+        return (0, len(at.line)) if other is None else (other.column, len(other))
     token = comment(at) or at.fault.token
     return (0, len(at.line)) if token is None else (token.column, len(token))
 

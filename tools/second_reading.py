@@ -3,20 +3,24 @@ docs/THEOREMS.md and not from the program.
 
 It reads documents of both versions by the grammar, and works out the answers of `solo`, `check` and `locals` straight from the
 definitions: languages by words, views by positions, labels by tertiary entries. It reads audited texts, a job and a claim
-about a run of it, and works out what `audit` says of them. The repository's checks compare the program with it, `gen`
-included, and tools/draw, tools/explain and tools/product are made from it.
+about a run of it, and works out what `audit` says of them; documents with an expression, and what `build` makes of them (by
+tools/expressions.py); jobs with readings, and their `news`; and what `freeze K` and `thaw` write. The repository's checks compare
+the program with it, `gen` included, and tools/draw, tools/explain and tools/product are made from it.
 """
 import itertools
 import re
 from collections import deque
 
+import expressions
+
 MOST_BYTES = 1048576
 MOST_PROCESSES, MOST_LETTERS, MOST_STATES = {1: 6, 2: 10}, {1: 32, 2: 128}, {1: 32, 2: 128}  # by version
 MOST_SCRIPT_LETTERS = MOST_EVENTS = 65536
+MOST_SIGNS = 64  # of an expression
 ANSWERS = [b"accept", b"reject", b"stuck"]
 NAME = re.compile(rb"[A-Za-z_][A-Za-z0-9_]{0,31}\Z")
 NUMBER = re.compile(rb"(0|[1-9][0-9]{0,9})\Z")
-USAGE = b"usage: zla solo|run|check|locals|journal [--cache C], zla audit, zla gen N\n"
+USAGE = b"usage: zla solo|run|check|locals|journal [--cache C], zla audit|build|news|thaw, zla gen N, zla freeze K\n"
 
 
 class Token(bytes):
@@ -32,11 +36,12 @@ class Token(bytes):
 
 
 class Wrong(Exception):
-    """The first failing test of a line, and the token that fails it, where it is one."""
+    """The first failing test of a line, and the token that fails it, where it is one; what may stand in its place, where the
+    test finds that out."""
 
-    def __init__(self, kind, token=None):
+    def __init__(self, kind, token=None, may=None):
         super().__init__(kind)
-        self.kind, self.token = kind, token
+        self.kind, self.token, self.may = kind, token, may
 
 
 class Refused(Exception):
@@ -45,6 +50,7 @@ class Refused(Exception):
     def __init__(self, line, wrong, job, place):
         super().__init__("refused line %d: %s" % (line, wrong.kind))
         self.line, self.kind, self.token, self.job, self.place = line, wrong.kind, wrong.token, job, place
+        self.may = wrong.may
 
 
 def want(condition, kind, token=None):
@@ -62,6 +68,7 @@ class Job:
 
     def __init__(self):
         self.version = 1
+        self.places = PLACES
         self.processes = self.states = self.start = 0
         self.names = []  # of the processes, as bytes; in version 1 their numbers
         self.letters = []  # (name, processes in rising order)
@@ -76,6 +83,11 @@ class Job:
         self.claimed = None  # in an audited text: the answer that is claimed, and the events, as letters with labels
         self.events = []
         self.event_lines = []
+        self.readings = []  # in a text with readings: for each process its numbers, and the line of each
+        self.reading_lines = []
+        self.expression = []  # in a document with an expression: its words, and the table that it has
+        self.table = None
+        self.cut = 0  # in a frozen text: how many events it says that there were
 
     def letter_of(self, name):
         for a, (other, _) in enumerate(self.letters):
@@ -109,9 +121,10 @@ class Job:
         return not set(self.loc(a)) & set(self.loc(b))
 
 
-# for each place, the first words that may stand there, and the place after each; a job ends at one, and a claim after it
-# at another
+# for each place, the first words that may stand there, and the place after each; a job ends at one, and a claim, readings or
+# the lines of a frozen text after it at others
 JOB_ENDS, CLAIM_ENDS = 8, 10
+AT_READINGS, READINGS_END, AT_CUT, CUT_ENDS = 11, 13, 14, 15
 PLACES = [
     {b"zla": 1},
     {b"processes": 2},
@@ -123,10 +136,20 @@ PLACES = [
     {b"script": 7, b"end": 8},
     {b"claim": 9},
     {b"fire": 9, b"end": 10},
+    {},
+    {b"readings": 12},
+    {b"read": 12, b"end": 13},
+    {},
+    {b"cut": 15},
+    {},
 ]
+# the same of a document with an expression: no table, and one line in its place
+EXPRESSION_PLACES = PLACES[:3] + [{b"letter": 3, b"expr": 7}, {}, {}, {}] + PLACES[7:]
+HEADERS = {(b"zla", b"1"): 1, (b"zla", b"2"): 2}  # with the version that each says
+EXPRESSION_HEADERS = {(b"zla", b"expr"): 2}
 # for each first word, how many words its line has: exactly, or at least
-EXACTLY = {b"zla": 2, b"processes": 2, b"states": 2, b"start": 2, b"row": 4, b"end": 1, b"claim": 2, b"fire": 2}
-AT_LEAST = {b"processes": 2, b"letter": 2, b"accept": 1, b"script": 2}
+EXACTLY = {b"zla": 2, b"processes": 2, b"states": 2, b"start": 2, b"row": 4, b"end": 1, b"claim": 2, b"fire": 2, b"readings": 1, b"cut": 2}
+AT_LEAST = {b"processes": 2, b"letter": 2, b"accept": 1, b"script": 2, b"expr": 2, b"read": 2}
 
 
 def take_processes(job, words):
@@ -174,6 +197,37 @@ def take_event(job, word):
     job.event_lines.append(job.line)
 
 
+def take_expression(job, words):
+    """An expression in place of a table, whose states are the position values."""
+    want(len(words) <= MOST_SIGNS, "more than 64 expression words", words[min(len(words) - 1, MOST_SIGNS)])
+    letter_at = {at: job.letter_of(word) for at, word in enumerate(words) if word not in expressions.SIGNS}
+    try:
+        expression = expressions.parsed(words)
+    except expressions.NoForm as wrong:
+        raise Wrong("bad expression", words[wrong.at] if wrong.at < len(words) else None, wrong.may) from None
+    table = expressions.table(expression, letter_at, len(job.letters), MOST_STATES[2])
+    want(table, "more than 128 states")
+    job.expression, job.table = words, table
+    job.states, job.accepting = len(table.values), {q for q, is_right in enumerate(table.accepting) if is_right}
+    job.targets = {(q, a): r for q, row in enumerate(table.targets) for a, r in enumerate(row)}
+
+
+def take_readings(job, words):
+    """Numbers that a process reads. It goes by its name, in version 1 by its number as a name."""
+    want(words[0] in job.names, "no such process", words[0])
+    p = job.names.index(words[0])
+    for word in words[1:]:
+        job.readings[p].append(number(word))
+        job.reading_lines[p].append(job.line)
+
+
+def take_cut(job, word):
+    """After how many events a job is frozen."""
+    count = number(word)
+    want(count <= len(weave(job)[0]), "no such cut", word)
+    job.cut = count
+
+
 def take(job, first, words):
     """The line's own tests in their order; what it says is gathered."""
     if first == b"processes":
@@ -208,6 +262,12 @@ def take(job, first, words):
         job.claimed = words[0].decode()
     elif first == b"fire":
         take_event(job, words[0])
+    elif first == b"expr":
+        take_expression(job, words)
+    elif first == b"read":
+        take_readings(job, words)
+    elif first == b"cut":
+        take_cut(job, words[0])
 
 
 def tokens(text):
@@ -227,32 +287,76 @@ def take_line(job, place, ends, text, whole):
     if not words or (job.version == 2 and words[0].startswith(b"#")):
         return place
     if place == 0:
-        want(words in ([b"zla", b"1"], [b"zla", b"2"]), "header is not zla 1 or 2", words[0])
-        job.version = int(words[1])
+        headers = HEADERS if job.places is PLACES else EXPRESSION_HEADERS
+        said = "header is not zla 1 or 2" if headers is HEADERS else "header is not zla expr"
+        want(tuple(words) in headers, said, words[0])
+        job.version = headers[tuple(words)]
     want(place < ends, "text after end", words[0])
     first = words[0]
-    want(first in PLACES[place], "line is out of order", first)
+    want(first in job.places[place], "line is out of order", first)
     exactly = first in EXACTLY and (first, job.version) != (b"processes", 2)
     want(len(words) == EXACTLY[first] if exactly else len(words) >= AT_LEAST[first], "wrong number of words")
     take(job, first, words[1:])
     job.lines[bytes(first)] = job.line
-    return PLACES[place][first]
+    return job.places[place][first]
 
 
-def read(text, ends=JOB_ENDS):
-    """The job that a document says, or an audited text with its claim. Refused names the first wrong line and its kind."""
+def lines_of(text):
+    """The lines of a text, each with whether it is whole."""
     pieces = text.split(b"\n")
-    lines = [(piece, True) for piece in pieces[:-1]] + ([(pieces[-1], False)] if pieces[-1] else [])
-    job, place = Job(), 0
+    return [(piece, True) for piece in pieces[:-1]] + ([(pieces[-1], False)] if pieces[-1] else [])
+
+
+def read_lines(job, lines, place, ends, before=0):
+    """What lines say, which come at a place after so many others, is gathered."""
     for at, (piece, whole) in enumerate(lines):
-        job.line = at + 1
+        job.line = before + at + 1
         try:
             place = take_line(job, place, ends, piece, whole)
         except Wrong as wrong:
             raise Refused(job.line, wrong, job, place) from None
     if place < ends:
-        raise Refused(len(lines) + 1, Wrong("end is missing"), job, place)
+        raise Refused(before + len(lines) + 1, Wrong("end is missing"), job, place)
     return job
+
+
+def read(text, ends=JOB_ENDS):
+    """The job that a document says, or an audited text with its claim. Refused names the first wrong line and its kind."""
+    return read_lines(Job(), lines_of(text), 0, ends)
+
+
+def read_expression(text):
+    """The job that a document with an expression says: the expression's table, and the scripts."""
+    job = Job()
+    job.places = EXPRESSION_PLACES
+    return read_lines(job, lines_of(text), 0, JOB_ENDS)
+
+
+def read_before(lines, is_dividing, place):
+    """The job that the lines before the first dividing one say, and how many they are. Without such a line the text ends
+    before the place where it belongs."""
+    at = next((at for at, (piece, _) in enumerate(lines) if is_dividing(tokens(piece))), len(lines))
+    job = read_lines(Job(), lines[:at], 0, JOB_ENDS)
+    if at == len(lines):
+        raise Refused(at + 1, Wrong("end is missing"), job, place)
+    return job, at
+
+
+def read_news(text):
+    """The job of a text with readings, and these."""
+    lines = lines_of(text)
+    job, at = read_before(lines, lambda words: words == [b"readings"], AT_READINGS)
+    job.readings = [[] for _ in range(job.processes)]
+    job.reading_lines = [[] for _ in range(job.processes)]
+    return read_lines(job, lines[at:], AT_READINGS, READINGS_END, at)
+
+
+def read_frozen(text):
+    """The job of a frozen text, and after how many events it says that it was frozen. The lines after the cut line aren't read;
+    they are those of the frozen text, or they are wrong."""
+    lines = lines_of(text)
+    job, at = read_before(lines, lambda words: words[:1] == [b"cut"], AT_CUT)
+    return read_lines(job, lines[at : at + 1], AT_CUT, CUT_ENDS, at)
 
 
 def items(job, script):
@@ -448,8 +552,8 @@ class Order:
 
 
 class Marks:
-    """The labels of a word that grows, in the time that long words allow. Of a past the last event of each process is
-    kept, which says what it is: a past holds each event that comes before one of its events at a process."""
+    """The labels and the views of a word that grows, in the time that long words allow. Of a past the last event of each
+    process is kept, which says what it is: a past holds each event that comes before one of its events at a process."""
 
     def __init__(self, job):
         self.job, self.word, self.labels = job, [], []
@@ -481,6 +585,24 @@ class Marks:
         self.word.append(a)
         self.pasts.append(past)
         return self.labels[at]
+
+    def known(self, p, q):
+        """The position of the latest event of a process that another knows, or None."""
+        at = self.pasts[self.latest[p]][q] if self.latest[p] >= 0 else -1
+        return at if at >= 0 else None
+
+    def view(self, p):
+        """The positions of the events that a process knows."""
+        last = self.pasts[self.latest[p]] if self.latest[p] >= 0 else [-1] * self.job.processes
+        return [i for i, a in enumerate(self.word) if any(i <= last[q] for q in self.job.loc(a))]
+
+
+def marked(job, word):
+    """A word with its labels and views."""
+    marks = Marks(job)
+    for a in word:
+        marks.push(a)
+    return marks
 
 
 def bound(job):
@@ -518,6 +640,56 @@ def known(job, dfa, order):
 
 def local_states(job, dfa):
     return 0, known(job, dfa, Order(job, weave(job)[0]))
+
+
+def frozen(job, dfa, cut):
+    """The frozen text of a job after so many events of its weave, or after all."""
+    marks = marked(job, weave(job)[0][:cut])
+    lines = ["cut %d" % len(marks.word)]
+    for p in range(job.processes):
+        known = [marks.known(p, q) for q in range(job.processes)]
+        entries = ["-" if e is None else "%s.%d" % (job.name(marks.word[e]), marks.labels[e]) for e in known]
+        view = dfa.walk(dfa.start, [marks.word[i] for i in marks.view(p)])
+        count = sum(1 for a in marks.word if p in job.loc(a))
+        lines.append(" ".join(["at", job.process(p), "%d" % count] + entries + ["view %d" % view]))
+    return printed(job) + "".join(line + "\n" for line in lines + ["end"]).encode()
+
+
+def first_other(text, own):
+    """The number of the first line at which two texts differ, a line that one of them lacks among them, or None."""
+    pairs = itertools.zip_longest(lines_of(text), lines_of(own))
+    return next((at + 1 for at, (line, other) in enumerate(pairs) if line != other), None)
+
+
+def want_own(job, dfa, text):
+    """A frozen text is the one of its job and its cut."""
+    own = frozen(job, dfa, job.cut)
+    at = first_other(text, own)
+    if at is not None:
+        lines = lines_of(own)
+        may = [lines[at - 1][0].decode()] if at <= len(lines) else []
+        raise Refused(at, Wrong("not the frozen text", None, may), job, CUT_ENDS)
+
+
+def written(job, word):
+    """The number that each event of a word writes: the next reading of its least participant, and 0 past the last."""
+    done, numbers = [0] * job.processes, []
+    for a in word:
+        p = job.loc(a)[0]
+        numbers.append(job.readings[p][done[p]] if done[p] < len(job.readings[p]) else 0)
+        for q in job.loc(a):
+            done[q] += 1
+    return numbers
+
+
+def news(job):
+    """What each process knows of each after the weave, a line each."""
+    word, _ = weave(job)
+    marks, numbers, lines = marked(job, word), written(job, word), []
+    for p in range(job.processes):
+        known = [marks.known(p, q) for q in range(job.processes)]
+        lines.append(" ".join(["known", job.process(p)] + ["-" if e is None else "%d" % numbers[e] for e in known]))
+    return lines
 
 
 def answer_after(job, dfa, word, done):
@@ -611,23 +783,41 @@ def generated(number):
     return job
 
 
-COMMANDS = {"solo": solo, "check": check, "locals": local_states}  # of a document; `audit` is one of an audited text
+COMMANDS = {"solo": solo, "check": check, "locals": local_states}  # of a document alone
+# of other texts, and those of a document with a number
+READERS = {"audit": lambda text: read(text, CLAIM_ENDS), "build": read_expression, "news": read_news, "thaw": read_frozen}
 
 
-def answer(command, text):
-    """The status and the text of a command on a document, and of `audit` on an audited text."""
+def said(job, dfa, command, count, text):
+    """The status and the lines of a command on what was read, whose language is closed."""
+    if command == "audit":
+        return audit(job, dfa)
+    if command == "news":
+        return 0, news(job)
+    if command == "freeze":
+        return 0, frozen(job, dfa, int(count)).decode().splitlines()
+    if command == "thaw":
+        want_own(job, dfa, text)
+        return solo(job, dfa)
+    return COMMANDS[command](job, dfa)
+
+
+def answer(words, text):
+    """The status and the text of a command on what it reads: `solo`, `freeze 2`."""
+    command, _, count = words.partition(" ")
     if len(text) > MOST_BYTES:
         return 9, b"refused: more than 1048576 bytes\n"
-    is_audit = command == "audit"
     try:
-        job = read(text, CLAIM_ENDS if is_audit else JOB_ENDS)
+        job = READERS.get(command, read)(text)
+        if command == "build":
+            return 0, printed(job)
+        dfa = minimal(completed(job))
+        two = least_break(job, dfa)
+        if two is None:
+            status, lines = said(job, dfa, command, count, text)
+        else:
+            left, right = (" ".join(job.name(a) for a in word) for word in (two.left, two.right))
+            status, lines = 5, ["not closed", "left " + left, "right " + right]
     except Refused as refused:
         return 4, ("%s\n" % refused).encode()
-    dfa = minimal(completed(job))
-    two = least_break(job, dfa)
-    if two is None:
-        status, lines = audit(job, dfa) if is_audit else COMMANDS[command](job, dfa)
-    else:
-        left, right = (" ".join(job.name(a) for a in word) for word in (two.left, two.right))
-        status, lines = 5, ["not closed", "left " + left, "right " + right]
     return status, "".join(line + "\n" for line in lines).encode()
