@@ -4,11 +4,13 @@
 Status and bytes are compared on worked rows, on the gallery, on every change of one byte of small texts, and on texts drawn
 at random: expressions, right ones and such with a word left out, doubled or changed, of which those that are built are
 also run; jobs with readings, right and wrong; jobs that are frozen after each event. A frozen text is thawed, which has to answer
-as `solo` does on its job, and so is one with a line changed, left out, doubled or exchanged with the next, which is refused.
+as `solo` does on its job, and so is one with a line changed, left out, doubled or exchanged with the next, which is refused; of some
+frozen texts each line is changed in each of these ways. A frozen text that is longer than a text may be is written whole, and refused.
 The second reading's tables are held against Python's regular expressions, and its position values against the definition
 word by word.
 
-    checks/further.py [--long]     --long draws 4,000 texts of each sort for 150, and tries every change of a byte
+    checks/further.py [--long]     --long draws 4,000 texts of each sort for 150, tries every change of a byte, and changes each line of
+                                   40 more frozen texts
 """
 import glob
 import itertools
@@ -50,6 +52,7 @@ ALL_WORDS = (
     b"zla 2\nprocesses left right\nletter a left\nletter b right\nstates 3\nstart 0\naccept 0 1 2\n"
     b"row 0 a 1\nrow 0 b 2\nrow 1 a 1\nrow 1 b 2\nrow 2 a 1\nrow 2 b 2\nscript left a\nscript right b\nend\n"
 )
+ALL_WORDS_RUN = b"accept\nfired 2\nbound labels 18 records 3\n"
 E = (
     b"zla 1\nprocesses 2\nletter a 0\nletter b 1\nletter c 0 1\nstates 2\nstart 0\naccept 0\nrow 0 a 1\nrow 0 b 0\nrow 0 c 0\n"
     b"row 1 a 0\nrow 1 b 1\nrow 1 c 1\nscript 0 a c a\nscript 1 b c\nend\n"
@@ -85,7 +88,8 @@ ROWS = [
     ("freeze 9", E_STUCK, 0, E_STUCK_FROZEN),
     ("thaw", E_STUCK_FROZEN, 3, STUCK),
     ("thaw", E, 4, b"refused line 18: end is missing\n"),
-    ("solo", ALL_WORDS, 0, b"accept\nfired 2\nbound labels 18 records 3\n"),
+    ("solo", ALL_WORDS, 0, ALL_WORDS_RUN),
+    ("run", ALL_WORDS, 0, ALL_WORDS_RUN),
 ]
 
 
@@ -271,6 +275,7 @@ def of_expressions(count):
         if status == 0 and number % 3 == 0:
             yield "check", built
             yield "solo", built
+            yield "run", built
 
 
 # ---- readings ----
@@ -321,11 +326,9 @@ def cuts_of(text):
         yield words, second_reading.answer(words, text)[1]
 
 
-def changed_line(frozen, draw):
-    """A frozen text with a line changed, left out, doubled, exchanged with the next, or put in."""
-    lines = frozen.split(b"\n")[:-1]
-    first = next(at for at, line in enumerate(lines) if line.startswith(b"cut "))
-    at = draw.randint(first, len(lines) - 1) if draw.random() < 0.7 else draw.randrange(len(lines))
+def line_changed(lines, at, draw):
+    """Lines with one changed, in each way: with another token, left out, doubled, exchanged with the next, with a line put in after
+    it, with a space at its end, and with two spaces for one."""
     tokens = lines[at].split(b" ")
     k = draw.randrange(len(tokens))
     other = tokens[:k] + [draw.choice([b"0", b"1", b"2", b"-", b"x", b"a.0", tokens[k] + b"0", tokens[k][:-1]])] + tokens[k + 1 :]
@@ -338,9 +341,22 @@ def changed_line(frozen, draw):
         [lines[at] + b" "],
         [b"  ".join(tokens)],
     ]
-    way = draw.randrange(len(ways))
-    changed = b"\n".join(lines[:at] + ways[way] + lines[at + (2 if way == 3 else 1) :]) + b"\n"
+    return [b"\n".join(lines[:at] + way + lines[at + (2 if i == 3 else 1) :]) + b"\n" for i, way in enumerate(ways)]
+
+
+def changed_line(frozen, draw):
+    """A frozen text with a line changed in some way."""
+    lines = frozen.split(b"\n")[:-1]
+    first = next(at for at, line in enumerate(lines) if line.startswith(b"cut "))
+    at = draw.randint(first, len(lines) - 1) if draw.random() < 0.7 else draw.randrange(len(lines))
+    changed = draw.choice(line_changed(lines, at, draw))
     return changed[: -draw.randint(1, 3)] if draw.random() < 0.05 else changed
+
+
+def each_line_changed(frozen, draw):
+    """A frozen text with each line changed in each way."""
+    lines = frozen.split(b"\n")[:-1]
+    return [changed for at in range(len(lines)) for changed in line_changed(lines, at, draw)]
 
 
 def by_positions(text, words, frozen):
@@ -369,6 +385,59 @@ def of_frozen(count):
             yield "thaw", frozen
             yield "thaw", changed_line(frozen, draw)
         yield "thaw", text
+
+
+def of_changed_lines(count):
+    """Frozen texts with each line changed in each way: that of a worked job, and those of so many jobs drawn at random, in their midst."""
+    jobs = [G]
+    for number in itertools.count():
+        if len(jobs) > count:
+            break
+        text = compare.drawn(number)
+        if second_reading.answer("solo", text)[0] in (0, 1, 3):
+            jobs.append(text if len(jobs) % 2 else compare.named(text))
+    for number, text in enumerate(jobs):
+        cuts = list(cuts_of(text))
+        _, frozen = cuts[len(cuts) // 2]
+        for changed in each_line_changed(frozen, random.Random(number)):
+            yield "thaw", changed
+
+
+def long_job(size):
+    """A job in its printed form, of so many bytes: two processes each have one of two letters as often as there is room. Two letters of
+    no script, whose rows are missing, fill it up."""
+    names = [b"a" * 32, b"b" * 32]
+
+    def text(filling, counts):
+        fillers = [b"f" * (filling // 2 + 1), b"g" * (filling - filling // 2 + 1)]
+        lines = [b"zla 1", b"processes 2"]
+        lines += [b"letter %s %d" % (name, p) for name, p in zip(names + fillers, [0, 1, 0, 1])]
+        lines += [b"states 1", b"start 0", b"accept 0", *(b"row 0 %s 0" % name for name in names)]
+        lines += [b"script %d %s" % (p, b" ".join([name] * count)) for p, (name, count) in enumerate(zip(names, counts))]
+        return b"\n".join([*lines, b"end", b""])
+
+    # a letter of a script takes the bytes of its name and of a space
+    left = size - len(text(0, [1, 1]))
+    count, filling = divmod(left, 33)
+    return text(filling, [1 + count // 2, 1 + count - count // 2])
+
+
+def of_long_frozen():
+    """A frozen text of as many bytes as are read, and longer ones: they are written whole, and thawed none. The last job is as long as
+    one may be, and is frozen after all its events."""
+    few = 1000
+    more = len(second_reading.answer("freeze 2", long_job(few))[1]) - few
+    for size, words, status in (
+        (second_reading.MOST_BYTES - more, "freeze 2", 0),
+        (second_reading.MOST_BYTES - more + 1, "freeze 2", 9),
+        (second_reading.MOST_BYTES, "freeze 40000", 9),
+    ):
+        text = long_job(size)
+        frozen = second_reading.answer(words, text)[1]
+        is_right = len(text) == size and (len(frozen) > second_reading.MOST_BYTES) == (status == 9)
+        want(is_right and second_reading.answer("thaw", frozen)[0] == status, "a long frozen text isn't as it was meant", text)
+        yield words, text
+        yield "thaw", frozen
 
 
 # ---- all ----
@@ -403,6 +472,8 @@ def cases(is_long):
     yield from of_expressions(count)
     yield from of_readings(count)
     yield from of_frozen(count // 10)
+    yield from of_changed_lines(40 if is_long else 0)
+    yield from of_long_frozen()
     yield "thaw", b"\n" * (second_reading.MOST_BYTES + 1)
 
 

@@ -27,9 +27,13 @@ import tempfile
 import threading
 
 TOP = os.path.dirname(os.path.dirname(os.path.abspath(__file__)))
+sys.path.insert(0, os.path.join(TOP, "checks"))
+sys.dont_write_bytecode = True
+from tools import script  # noqa: E402
+
 PROGRAM = os.path.join(TOP, "crates", "zla", "out", "zla")
 SECONDS = 30  # a run that takes longer hangs
-MOST_BYTES = 1048576
+MOST_BYTES, MOST_WORDS = 1048576, 64
 NO_MEMORY = 8
 PAGE = 4096
 TOO_LONG = b"refused: more than 1048576 bytes\n"
@@ -231,15 +235,20 @@ WIDEST = drawn_job(10, 128, 128)
 
 
 def jobs_at_limits():
-    """A job at each limit of documents, and the expression with as many states as are told apart by five letters."""
-    expression = b"zla expr\nprocesses p q\nletter a p\nletter b q\nexpr ( a | b ) * a" + b" ( a | b )" * 5 + b"\nend\n"
+    """A job at each limit of documents, each with an expression: as many states as five letters tell apart, and for the widest job 64
+    words and 128 states, over as many processes and letters."""
+    narrow = b"zla expr\nprocesses p q\nletter a p\nletter b q\nexpr ( a | b ) * a" + b" ( a | b )" * 5 + b"\nend\n"
+    widest = script("measure").expression().encode()
+    status, built, _ = answer(["build"], widest)
+    is_widest = len(re.search(rb"^expr (.*)$", widest, re.M)[1].split()) == MOST_WORDS and b"\nstates 128\n" in built
+    want(status == 0 and is_widest, "the expression of tools/measure isn't at its limits")
     small = drawn_job(2, 3, 2)
-    yield drawn_job(10, 10, 2), expression
-    yield drawn_job(2, 128, 1, 1, b"n" * 29), expression
-    yield drawn_job(2, 2, 128), expression
-    yield drawn_job(1, 1, 2, 65536), expression
-    yield WIDEST, expression
-    yield small[:6] + b"#" * (MOST_BYTES - len(small) - 1) + b"\n" + small[6:], expression
+    yield drawn_job(10, 10, 2), narrow
+    yield drawn_job(2, 128, 1, 1, b"n" * 29), narrow
+    yield drawn_job(2, 2, 128), narrow
+    yield drawn_job(1, 1, 2, 65536), narrow
+    yield WIDEST, widest
+    yield small[:6] + b"#" * (MOST_BYTES - len(small) - 1) + b"\n" + small[6:], narrow
 
 
 def cases(is_long):

@@ -1,9 +1,9 @@
 """A second reading of the definitions, in plain Python: unproved, slow, and written from docs/FORMATS.md and
 docs/THEOREMS.md and not from the program.
 
-It reads documents of both versions by the grammar, and works out the answers of `solo`, `check` and `locals` straight from the
-definitions: languages by words, views by positions, labels by tertiary entries. It reads audited texts, a job and a claim
-about a run of it, and works out what `audit` says of them; documents with an expression, and what `build` makes of them (by
+It reads documents of both versions by the grammar, and works out the answers of `solo`, `run`, `check` and `locals` straight from
+the definitions: languages by words, views by positions, labels by tertiary entries. It reads audited texts, a job and a claim about
+a run of it, and works out what `audit` says of them; documents with an expression, and what `build` makes of them (by
 tools/expressions.py); jobs with readings, and their `news`; and what `freeze K` and `thaw` write. The repository's checks compare
 the program with it, `gen` included, and tools/draw, tools/explain and tools/product are made from it.
 """
@@ -798,6 +798,7 @@ def said(job, dfa, command, count, text):
         return 0, frozen(job, dfa, int(count)).decode().splitlines()
     if command == "thaw":
         want_own(job, dfa, text)
+    if command in ("thaw", "run"):
         return solo(job, dfa)
     return COMMANDS[command](job, dfa)
 
