@@ -6,8 +6,8 @@ use Rattle.std.specs.Str.{bytes_eq}
 use Rattle.za_text.specs.Numbers.{numeral_value}
 use Rattle.za_command.specs.Limits.{most_cache_rows}
 use Rattle.za_command.specs.declared.plan.Plan.{Plan}
-use Rattle.za_command.specs.declared.plan.Plan.TheVariants.{Solo, Run, Check, Locals, Journal, Audit, Build, News, Thaw, Gen}
-use Rattle.za_command.specs.declared.plan.Plan.TheVariants.{Freeze}
+use Rattle.za_command.specs.declared.plan.Plan.TheVariants.{Solo, Run, Check, Locals, Journal, Audit}
+use Rattle.za_command.specs.declared.plan.Plan.TheVariants.{Build, News, Freeze, Thaw, Gen}
 
 -- a command word, as its bytes
 abbrev pub Text : Type 0

@@ -3,8 +3,8 @@
 ghost use Rattle.std.specs.Prelude.{◌≡◌, MatchResult, Some, None, map, not, string_bytes};
 ghost use Rattle.std.specs.List.{list_any};
 ghost use Rattle.za_command.specs.Private.Command.{plan_of_texts, texts_of};
-ghost use Rattle.za_command.specs.Plans.{is_foreign, is_neither, plan_of, plan_of_pair, plan_of_word, plan_with, plan_with_number};
-ghost use Rattle.za_command.specs.Plans.{cache_of, spelling};
+ghost use Rattle.za_command.specs.Plans.{cache_of, is_foreign, is_neither, plan_of, plan_of_pair, plan_of_word};
+ghost use Rattle.za_command.specs.Plans.{plan_with, plan_with_number, spelling};
 
 use crate::command::{Found, found_in};
 use clap::error::ErrorKind;

@@ -155,13 +155,43 @@ fn a_word_leads_on_from_any_state(rt: HostRuntime) -> Result<(), Fail> {
     Ok(())
 }
 
+/// Whether the letters at a place of two alphabets have the same name and processes.
+fn same_letter(rt: &impl Abort, a: &Alphabet, b: &Alphabet, at: usize) -> bool {
+    assert!(rt; at < 128 && at < a.letters() && at < b.letters());
+    let letter = Letter(at as u8);
+    *a.name(letter) == *b.name(letter) && a.loc(letter) == b.loc(letter)
+}
+
+/// Whether two alphabets have as many processes, and the same letters in the same order.
+fn same_alphabet(rt: &impl Abort, a: &Alphabet, b: &Alphabet) -> bool {
+    if a.processes() != b.processes() || a.letters() != b.letters() {
+        return false;
+    }
+    for at in 0..a.letters() {
+        if !same_letter(rt, a, b, at) {
+            return false;
+        }
+    }
+    true
+}
+
+/// Whether two tables are the same in all that they have.
+fn same_table(rt: &impl Abort, a: &Dfa, b: &Dfa) -> bool {
+    same_alphabet(rt, a.alphabet(), b.alphabet())
+        && a.states() == b.states()
+        && a.start() == b.start()
+        && *a.accepting_states() == *b.accepting_states()
+        && *a.targets() == *b.targets()
+}
+
 #[test]
 fn even_numbers_of_a_are_closed(rt: HostRuntime) -> Result<(), Fail> {
     let dfa = completed(&rt, true, 2, 0, &PARITY_OF_A)??;
     assert!(rt; first_broken(&dfa).is_none());
-    let closed = Closed::new(dfa).ok().expect(&rt, "closed").copy()?;
-    assert_eq!(rt; closed.dfa().states(), 2);
-    assert!(rt; accepts(&rt, closed.dfa(), &[0, 1, 2, 0])?);
+    let closed = Closed::new(dfa).ok().expect(&rt, "closed");
+    let copy = closed.copy()?;
+    assert!(rt; same_table(&rt, copy.dfa(), closed.dfa()));
+    assert!(rt; accepts(&rt, copy.dfa(), &[0, 1, 2, 0])?);
     Ok(())
 }
 

@@ -40,8 +40,8 @@ fn read_expression(alloc: Global, bytes: &[u8]) -> Result<Job, JobFault>
 /// words of an expression, `script` lines and `end`. It is refused at the first line that is wrong, with the first of
 /// that line's tests that fails, or, where no line is wrong and `end` is missing, at one more than the number of lines.
 /// The text is the printed form of a job of version 2: the document's names, letters and scripts, and as the language
-/// the expression's table by position values, with all its rows. It isn't minimised, nor tested for closure. Want of
-/// memory is the one free answer.
+/// the expression's table by position values (McNaughton and Yamada 1960; Glushkov 1961), with all its rows. It isn't
+/// minimised, nor tested for closure. Want of memory is the one free answer.
 pub fn build(alloc: Global, bytes: &[u8]) -> Result<Vec<u8>, JobFault>
     requires { length bytes.now < 4294967295 }
     ensures { MatchResult result (λ text. IsBuilt bytes.now text.items) (IsBuildFault bytes.now) }

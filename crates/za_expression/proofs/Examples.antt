@@ -6,7 +6,7 @@ use Rattle.za_expression.specs.Plain.{One, Occurrence, Sequence, Or, Star}
 use Rattle.za_expression.specs.Forms.{Form, Part, And, Not, is_meant}
 use Rattle.za_expression.specs.Grammar.{IsForm}
 use Rattle.za_expression.specs.Values.{HasIn}
-use Rattle.za_expression.specs.Following.{goes, value}
+use Rattle.za_expression.specs.Following.{goes, following_value}
 use Rattle.za_expression.proofs.Sound.{sound}
 use Rattle.za_expression.proofs.Complete.{complete}
 
@@ -33,7 +33,7 @@ unfolding all_form letters
 not_word = refl
 
 -- a b ends at the occurrence of b alone
-value_of_ab : value (goes all_form) letters 6 (0 ∷ 1 ∷ []) ≡ 4 ∷ []
+value_of_ab : following_value (goes all_form) letters 6 (0 ∷ 1 ∷ []) ≡ 4 ∷ []
 unfolding all_form letters
 value_of_ab = refl
 

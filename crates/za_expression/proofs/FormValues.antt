@@ -6,7 +6,7 @@ use Rattle.za_expression.specs.Plain.{Plain, One, Occurrence, Sequence, Or, Star
 use Rattle.za_alpha.specs.Words.{has}
 use Rattle.za_expression.specs.Forms.{Form, Part, And, Not, is_meant}
 use Rattle.za_expression.specs.Values.{HasIn}
-use Rattle.za_expression.specs.Following.{leads, ends, value, goes, accepts}
+use Rattle.za_expression.specs.Following.{leads, ends, following_value, goes, accepts}
 use Rattle.za_expression.specs.Private.Ordered.{Within, Spans}
 use Rattle.za_expression.proofs.Follow.{Lies, apart, within_order, follows_lie, last_lies}
 use Rattle.za_expression.proofs.Rests.{leads_lies}
@@ -116,7 +116,7 @@ path_from_has letter low (And a b) high n u p one fits s (inr h) =
     (k.0, k.1, path_more (goes b) (goes (And a b)) (λ x y z. or_right (goes a x y) (goes b x y) z) n 0 k.0 p k.2)
 path_from_has letter low (Not a) high n u p one fits s h = path_from_has letter low a high n u p one fits s h
 
-pub value_to : (letter : ℕ → ℕ) (f : Form) (n a : ℕ) (u : List ℕ) (p : ℕ) → Spans 1 f (1 + n) → has (value (goes f) letter n (a ∷ u)) p ≡ true →
+pub value_to : (letter : ℕ → ℕ) (f : Form) (n a : ℕ) (u : List ℕ) (p : ℕ) → Spans 1 f (1 + n) → has (following_value (goes f) letter n (a ∷ u)) p ≡ true →
     HasIn letter f (a ∷ u) p
 value_to letter f n a u p s h =
     let k = ends_to (goes f) letter n (a ∷ u) p h in
@@ -125,7 +125,8 @@ value_to letter f n a u p s h =
       | q ∷ l ↦ λ x y. subst (λ z. HasIn letter f z p) x (has_from_path letter 1 f (1 + n) n q l p (omega arith) (omega arith) s y)
     ] k.1 k.2
 
-pub value_from : (letter : ℕ → ℕ) (f : Form) (n : ℕ) (u : List ℕ) (p : ℕ) → Spans 1 f (1 + n) → HasIn letter f u p → has (value (goes f) letter n u) p ≡ true
+pub value_from : (letter : ℕ → ℕ) (f : Form) (n : ℕ) (u : List ℕ) (p : ℕ) → Spans 1 f (1 + n) → HasIn letter f u p →
+    has (following_value (goes f) letter n u) p ≡ true
 value_from letter f n u p s h =
     let k = path_from_has letter 1 f (1 + n) n u p (omega arith) (omega arith) s h in
     ends_from (goes f) letter n u k.0 p k.1 k.2
@@ -167,17 +168,17 @@ same_tests a b f g =
 
 part_ends : (g : Form) (e : Plain) (letter : ℕ → ℕ) (low high n : ℕ) (u : List ℕ) → 1 ≤ low → high ≤ 1 + n → Within low e high →
     Restricts g (Part e) low high n →
-    list_any (λ p. ends e p) (value (goes g) letter n u) ≡ list_any (λ p. ends e p) (value (leads e) letter n u)
+    list_any (λ p. ends e p) (following_value (goes g) letter n u) ≡ list_any (λ p. ends e p) (following_value (leads e) letter n u)
 part_ends g e letter low high n u one fits s r =
-    same_tests (list_any (λ p. ends e p) (value (goes g) letter n u)) (list_any (λ p. ends e p) (value (leads e) letter n u))
+    same_tests (list_any (λ p. ends e p) (following_value (goes g) letter n u)) (list_any (λ p. ends e p) (following_value (leads e) letter n u))
     (λ h.
-    let k = any_to (λ p. ends e p) (value (goes g) letter n u) h in
+    let k = any_to (λ p. ends e p) (following_value (goes g) letter n u) h in
     let t = ends_to (goes g) letter n u k.0 k.1 in
-    any_from (λ p. ends e p) (value (leads e) letter n u) k.0 (ends_from (leads e) letter n u t.0 k.0 t.1 (inside t.0 k.0 k.2 t.2)) k.2)
+    any_from (λ p. ends e p) (following_value (leads e) letter n u) k.0 (ends_from (leads e) letter n u t.0 k.0 t.1 (inside t.0 k.0 k.2 t.2)) k.2)
     (λ h.
-    let k = any_to (λ p. ends e p) (value (leads e) letter n u) h in
+    let k = any_to (λ p. ends e p) (following_value (leads e) letter n u) h in
     let t = ends_to (leads e) letter n u k.0 k.1 in
-    any_from (λ p. ends e p) (value (goes g) letter n u) k.0
+    any_from (λ p. ends e p) (following_value (goes g) letter n u) k.0
     (ends_from (goes g) letter n u t.0 k.0 t.1 (path_more (leads e) (goes g) r.outside n 0 t.0 k.0 t.2)) k.2)
   where
     place : (p : ℕ) → 1 ≤ p → ends e p ≡ true → Lies low p high
@@ -189,19 +190,19 @@ part_ends g e letter low high n u one fits s r =
     inside (q ∷ l) p h k = let z = last_step (goes g) n 0 q l p k in r.inside q l p (place p z.lies h) k
 
 pub accepts_is : (g f : Form) (letter : ℕ → ℕ) (low high n : ℕ) (u : List ℕ) → 1 ≤ low → high ≤ 1 + n → Spans low f high → Restricts g f low high n →
-    accepts f (value (goes g) letter n u) ≡ is_meant letter f u
+    accepts f (following_value (goes g) letter n u) ≡ is_meant letter f u
 accepts_is g (Part e) letter low high n u one fits s r =
     part_ends g e letter low high n u one fits s r ∙
-    same_tests (list_any (λ p. ends e p) (value (leads e) letter n u)) (matches letter e u)
+    same_tests (list_any (λ p. ends e p) (following_value (leads e) letter n u)) (matches letter e u)
     (accepts_from letter e n u (within_wider low 1 e high (1 + n) one fits s)) (accepts_to letter e n u (within_wider low 1 e high (1 + n) one fits s))
 accepts_is g (And a b) letter low high n u one fits s r =
     let oa = spans_order low a s.0 s.1 in
     let ob = spans_order s.0 b high s.2 in
     let x = accepts_is g a letter low s.0 n u one (omega arith) s.1 (restricts_left g a b low s.0 high n one s.1 s.2 r) in
     let y = accepts_is g b letter s.0 high n u (omega arith) fits s.2 (restricts_right g a b low s.0 high n one s.1 s.2 r) in
-    ap (λ z. z && accepts b (value (goes g) letter n u)) x ∙ ap (λ z. is_meant letter a u && z) y
+    ap (λ z. z && accepts b (following_value (goes g) letter n u)) x ∙ ap (λ z. is_meant letter a u && z) y
 accepts_is g (Not a) letter low high n u one fits s r =
     ap (λ z. not z) (accepts_is g a letter low high n u one fits s (record { inside = r.inside; outside = r.outside }))
 
-pub accepts_meets : (f : Form) (letter : ℕ → ℕ) (n : ℕ) (u : List ℕ) → Spans 1 f (1 + n) → accepts f (value (goes f) letter n u) ≡ is_meant letter f u
+pub accepts_meets : (f : Form) (letter : ℕ → ℕ) (n : ℕ) (u : List ℕ) → Spans 1 f (1 + n) → accepts f (following_value (goes f) letter n u) ≡ is_meant letter f u
 accepts_meets f letter n u s = accepts_is f f letter 1 (1 + n) n u (omega arith) (omega arith) s (record { inside = λ q l p here k. k; outside = λ p q h. h })

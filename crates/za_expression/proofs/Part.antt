@@ -6,7 +6,7 @@ use Rattle.std.proofs.lemmas.Bool.{or_cases}
 use Rattle.za_expression.specs.Plain.{Plain, One, Occurrence, Sequence, Or, Star, matches}
 use Rattle.za_alpha.specs.Words.{has}
 use Rattle.za_expression.specs.Values.{IsIn}
-use Rattle.za_expression.specs.Following.{leads, ends, value}
+use Rattle.za_expression.specs.Following.{leads, ends, following_value}
 use Rattle.za_expression.specs.Private.Ordered.{Within}
 use Rattle.za_expression.proofs.Meaning.{Means, means, matches_from, Repeats, NoMore, More}
 use Rattle.za_expression.proofs.Follow.{Marked}
@@ -113,7 +113,7 @@ path_from_in letter e n u p within h =
     (h.before ++ p ∷ [], h.spells, subst (λ x. Path (leads e) n 0 (h.before ++ p ∷ []) x) (sym e2) k.1)
 
 -- a value's places are the ends of paths
-pub ends_to : (leads : ℕ → ℕ → Bool) (letter : ℕ → ℕ) (n : ℕ) (u : List ℕ) (p : ℕ) → has (value leads letter n u) p ≡ true →
+pub ends_to : (leads : ℕ → ℕ → Bool) (letter : ℕ → ℕ) (n : ℕ) (u : List ℕ) (p : ℕ) → has (following_value leads letter n u) p ≡ true →
     (l : List ℕ) × (map letter l ≡ u) × Path leads n 0 l p
 ends_to leads letter n u p h =
     let k = walk_to leads letter n (0 ∷ []) u p h in
@@ -121,24 +121,26 @@ ends_to leads letter n u p h =
     (k.path, k.spells, subst (λ x. Path leads n x k.path p) (sym z) k.leads_to)
 
 pub ends_from : (leads : ℕ → ℕ → Bool) (letter : ℕ → ℕ) (n : ℕ) (u l : List ℕ) (p : ℕ) → map letter l ≡ u → Path leads n 0 l p →
-    has (value leads letter n u) p ≡ true
+    has (following_value leads letter n u) p ≡ true
 ends_from leads letter n u l p s h =
-    subst (λ x. has (value leads letter n x) p ≡ true) s (walk_from leads letter n l (0 ∷ []) 0 p refl h)
+    subst (λ x. has (following_value leads letter n x) p ≡ true) s (walk_from leads letter n l (0 ∷ []) 0 p refl h)
 
 -- a word is in the meaning exactly if its value has a last place
 pub accepts_to : (letter : ℕ → ℕ) (e : Plain) (n : ℕ) (u : List ℕ) → Within 1 e (1 + n) → matches letter e u ≡ true →
-    list_any (ends e) (value (leads e) letter n u) ≡ true
+    list_any (ends e) (following_value (leads e) letter n u) ≡ true
 accepts_to letter e n u within h =
     let s = spelled letter e u (means letter e u h) in
     let m : Rest e 0 (s.word ++ []) = subst (λ x. Marked e x) (sym (append-nil s.word)) s.marked in
     let k = path_from 1 e (1 + n) n 0 s.word [] (omega arith) (omega arith) within m in
     let g = walk_from (leads e) letter n s.word (0 ∷ []) 0 k.0 refl k.1 in
-    any_from (ends e) (value (leads e) letter n u) k.0 (subst (λ x. has (value (leads e) letter n x) k.0 ≡ true) s.spells g) (rest_ends e k.0 k.2)
+    let at : has (following_value (leads e) letter n u) k.0 ≡ true =
+    subst (λ x. has (following_value (leads e) letter n x) k.0 ≡ true) s.spells g in
+    any_from (ends e) (following_value (leads e) letter n u) k.0 at (rest_ends e k.0 k.2)
 
-pub accepts_from : (letter : ℕ → ℕ) (e : Plain) (n : ℕ) (u : List ℕ) → Within 1 e (1 + n) → list_any (ends e) (value (leads e) letter n u) ≡ true →
+pub accepts_from : (letter : ℕ → ℕ) (e : Plain) (n : ℕ) (u : List ℕ) → Within 1 e (1 + n) → list_any (ends e) (following_value (leads e) letter n u) ≡ true →
     matches letter e u ≡ true
 accepts_from letter e n u within h =
-    let k = any_to (ends e) (value (leads e) letter n u) h in
+    let k = any_to (ends e) (following_value (leads e) letter n u) h in
     let r = walk_to (leads e) letter n (0 ∷ []) u k.0 k.1 in
     let z = source_is r.source r.in_places in
     let m : Rest e 0 (r.path ++ []) =

@@ -65,5 +65,5 @@ step leads letter n places a =
     filter (λ q. letter q == a && list_any (λ p. leads p q) places) (range_with_len 1 n)
 
 -- the value of a word by following places; the empty word's is the start alone
-abbrev pub value : (ℕ → ℕ → Bool) → (ℕ → ℕ) → ℕ → List ℕ → List ℕ
-value leads letter n u = walk (step leads letter n) (0 ∷ []) u
+abbrev pub following_value : (ℕ → ℕ → Bool) → (ℕ → ℕ) → ℕ → List ℕ → List ℕ
+following_value leads letter n u = walk (step leads letter n) (0 ∷ []) u

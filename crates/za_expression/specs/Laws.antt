@@ -5,7 +5,7 @@ use Rattle.za_expression.specs.declared.sign.Sign.{Sign}
 use Rattle.za_expression.specs.Forms.{Form, is_meant}
 use Rattle.za_expression.specs.Grammar.{IsForm}
 use Rattle.za_expression.specs.Values.{HasIn}
-use Rattle.za_expression.specs.Following.{goes, accepts, value}
+use Rattle.za_expression.specs.Following.{goes, accepts, following_value}
 
 -- signs are one form at most
 abbrev pub SignsAreOneForm : Type 0
@@ -15,10 +15,10 @@ SignsAreOneForm = (signs : List Sign) (f g : Form) → IsForm 1 signs f → IsFo
 abbrev pub ValuesByFollowing : Type 0
 ValuesByFollowing =
     (letter : ℕ → ℕ) (signs : List Sign) (f : Form) (a : ℕ) (u : List ℕ) (p : ℕ) → IsForm 1 signs f →
-    (IsTrue (has (value (goes f) letter (length signs) (a ∷ u)) p) ↔ HasIn letter f (a ∷ u) p)
+    (IsTrue (has (following_value (goes f) letter (length signs) (a ∷ u)) p) ↔ HasIn letter f (a ∷ u) p)
 
 -- a word is in the form's meaning exactly if the form accepts its value
 abbrev pub MeaningByValues : Type 0
 MeaningByValues =
     (letter : ℕ → ℕ) (signs : List Sign) (f : Form) (u : List ℕ) → IsForm 1 signs f →
-    accepts f (value (goes f) letter (length signs) u) ≡ is_meant letter f u
+    accepts f (following_value (goes f) letter (length signs) u) ≡ is_meant letter f u

@@ -7,7 +7,7 @@ use Rattle.std.proofs.Math.Nat.{pow-suc, sub_self}
 use Rattle.std.proofs.lemmas.Bool.{cases_Bool, cases_lt, cond-true, cond-false, lt-ltb, or_right, eqb-false}
 use Rattle.std.proofs.lemmas.Nat.Bits.{bit_at_cat_low, bit_at_cat_high, bit_at_above, same_from_bits_below, bit_at-lt}
 use Rattle.za_expression.specs.Forms.{Form}
-use Rattle.za_expression.specs.Following.{goes, accepts, step, value}
+use Rattle.za_expression.specs.Following.{goes, accepts, step, following_value}
 use Rattle.za_expression.specs.Forms.{is_meant}
 use Rattle.za_expression.specs.Private.Ordered.{Spans}
 use Rattle.za_alpha.specs.Words.{has}
@@ -84,7 +84,7 @@ walk-places f letter n letters (a ∷ u) m =
     walk-places f letter n letters u (position_step f letter n m a) ∙ ap (λ x. walk (step (goes f) letter n) x u) (step-places f letter n m a)
 
 pub value-places : (f : Form) (letter : ℕ → ℕ) (n letters : ℕ) (u : List ℕ) →
-    places_of n (walk (positions f letter n letters).step 1 u) ≡ value (goes f) letter n u
+    places_of n (walk (positions f letter n letters).step 1 u) ≡ following_value (goes f) letter n u
 value-places f letter n letters u = walk-places f letter n letters u 1 ∙ ap (λ x. walk (step (goes f) letter n) x u) (start-places n)
 
 pub positions-total : (f : Form) (letter : ℕ → ℕ) (n letters : ℕ) → IsTotal (positions f letter n letters)

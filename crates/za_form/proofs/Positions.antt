@@ -7,7 +7,7 @@ use Rattle.za_dfa.proofs.Diamonds.{walk-below}
 use Rattle.za_expression.specs.declared.sign.Sign.{Sign}
 use Rattle.za_expression.specs.Forms.{is_meant}
 use Rattle.za_expression.specs.Grammar.{IsForm}
-use Rattle.za_expression.specs.Following.{goes, value}
+use Rattle.za_expression.specs.Following.{goes, following_value}
 use Rattle.za_expression.specs.Values.{HasIn, HaveSameValue}
 use Rattle.za_expression.proofs.Values.{Path, walk_to}
 use Rattle.za_expression.proofs.Whole.{form_spans, values_by_following}
@@ -27,7 +27,7 @@ place_in_value : (leads : ℕ → ℕ → Bool) (letter : ℕ → ℕ) (n a : �
 place_in_value leads letter n a u [] s p e h = cc
 place_in_value leads letter n a u (q ∷ l) s p e h = path_end leads n s q l p h
 
-no_start : (leads : ℕ → ℕ → Bool) (letter : ℕ → ℕ) (n a : ℕ) (u : List ℕ) → has (value leads letter n (a ∷ u)) 0 ≡ true → ⊥
+no_start : (leads : ℕ → ℕ → Bool) (letter : ℕ → ℕ) (n a : ℕ) (u : List ℕ) → has (following_value leads letter n (a ∷ u)) 0 ≡ true → ⊥
 no_start leads letter n a u h =
     let r = walk_to leads letter n (0 ∷ []) (a ∷ u) 0 h in
     let l = place_in_value leads letter n a u r.path r.source 0 r.spells r.leads_to in omega arith
@@ -43,7 +43,7 @@ module _ (signs : List Sign) (letters : ℕ) (h : IsForm 1 signs (form_of signs)
   state u = walk (positions_of signs letters).step 1 u
 
   abbrev set : List ℕ → List ℕ
-  set u = value (goes (form_of signs)) (letter_at signs) (length signs) u
+  set u = following_value (goes (form_of signs)) (letter_at signs) (length signs) u
 
   places-are : (u : List ℕ) → places_of (length signs) (state u) ≡ set u
   places-are u = value-places (form_of signs) (letter_at signs) (length signs) letters u

@@ -34,13 +34,13 @@ impl Model for Form {
 }
 
 impl Form {
-    /// The form that a text is, one line's: tokens with spaces or tabs between them, each a letter's
-    /// name or one of `1`, `(`, `)`, `{`, `}`, `|`, `*`, `&` and `!`. A form is one or more unaries
-    /// joined by `&`; a unary is `!` and a unary, or a form in braces, or one or more products joined by
-    /// `|`; a product is one or more items, an item an atom and any number of `*`, and an atom a letter,
-    /// or `1`, or such products in parentheses. `Full` comes exactly where the text has more than 64 tokens;
-    /// else `NoSuchLetter` exactly where a token is neither a symbol nor a letter's name; else `NotAForm`
-    /// exactly where the tokens aren't a form. Want of memory is the one free answer.
+    /// The form that a text is, one line's (Kleene 1956, with intersection and complement): tokens with spaces
+    /// or tabs between them, each a letter's name or one of `1`, `(`, `)`, `{`, `}`, `|`, `*`, `&` and `!`. A
+    /// form is one or more unaries joined by `&`; a unary is `!` and a unary, or a form in braces, or one or
+    /// more products joined by `|`; a product is one or more items, an item an atom and any number of `*`, and
+    /// an atom a letter, or `1`, or such products in parentheses. `Full` comes exactly where the text has more
+    /// than 64 tokens; else `NoSuchLetter` exactly where a token is neither a symbol nor a letter's name; else
+    /// `NotAForm` exactly where the tokens aren't a form. Want of memory is the one free answer.
     pub fn parse(alloc: Global, alphabet: &Alphabet, text: &[u8]) -> Result<Form, FormFault>
         ensures { MatchResult result
             (λ signs. IsExpressionOf alphabet.now.letters (words_of text.now) signs)

@@ -4,6 +4,7 @@ use std::process::Abort;
 use std::test::Fail;
 use za_alpha::{Alphabet, Letter, LetterRow, OutOfMemory, Word};
 use za_dfa::Dfa;
+use za_expression::Sign;
 
 fn row(alloc: Global, name: u8, process: u32) -> Result<LetterRow, AllocError> {
     Ok(LetterRow {
@@ -43,6 +44,13 @@ fn fault_of(alloc: Global, text: &[u8]) -> Result<Option<FormFault>, Fail> {
     Ok(Form::parse(alloc, &alphabet, text).err())
 }
 
+/// The signs of the text's expression.
+fn signs_of(alloc: Global, text: &[u8]) -> Result<Vec<Sign>, Fail> {
+    let alphabet = alphabet_of(alloc)?;
+    let form = Form::parse(alloc, &alphabet, text)?;
+    Ok(Vec::from_slice(alloc, form.signs())?)
+}
+
 /// What the text's expression has as a DFA.
 fn built(alloc: Global, text: &[u8]) -> Result<Result<Dfa, Wide>, Fail> {
     let alphabet = alphabet_of(alloc)?;
@@ -76,6 +84,44 @@ fn texts_have_faults(rt: HostRuntime) -> Result<(), Fail> {
         (b"a|b".as_slice(), Some(FormFault::NoSuchLetter)),
     ] {
         assert_eq!(rt; fault_of(rt.alloc(), text)?, fault, "{text:?}");
+    }
+    Ok(())
+}
+
+/// The letters `a` and `b` by their numbers.
+const A: Sign = Sign::Name(0);
+
+const B: Sign = Sign::Name(1);
+
+#[test]
+fn texts_have_signs(rt: HostRuntime) -> Result<(), Fail> {
+    for (text, signs) in [
+        (b"1".as_slice(), [Sign::Empty].as_slice()),
+        (
+            b"\tb  a *\t* ".as_slice(),
+            [B, A, Sign::Times, Sign::Times].as_slice(),
+        ),
+        (
+            b"( a | b ) *".as_slice(),
+            [Sign::Open, A, Sign::Bar, B, Sign::Close, Sign::Times].as_slice(),
+        ),
+        (
+            b"! { a & 1 } & b".as_slice(),
+            [
+                Sign::Bang,
+                Sign::Begin,
+                A,
+                Sign::Ampersand,
+                Sign::Empty,
+                Sign::End,
+                Sign::Ampersand,
+                B,
+            ]
+            .as_slice(),
+        ),
+    ] {
+        let seen = signs_of(rt.alloc(), text)?;
+        assert!(rt; seen.as_slice() == signs, "{text:?} {seen:?}");
     }
     Ok(())
 }

@@ -88,8 +88,8 @@ pub(crate) fn text_after(
 }
 
 /// The frozen text of a job after `k` firings of its weave, or after all where there are fewer: its
-/// printed form, how many events there were, for each process how many events it has and what it knows,
-/// and `end`.
+/// printed form, how many events there were, for each process how many events it has and what it knows, its
+/// local state after them (Mukund 2012), and `end`.
 ///
 /// The scripts have to fit the job's alphabet, and `closed` is what `close` gives for its completed DFA.
 /// Want of memory is the one free answer.

@@ -2,8 +2,10 @@ use super::*;
 use std::alloc::Global;
 use std::process::Abort;
 use std::test::Fail;
+use za_alpha::{Letter, Word};
 use za_closure::close;
 use za_lang::read_job;
+use za_print::print_job;
 use za_text::{Kind, TextFault};
 
 /// Two processes with a letter each and one that they share.
@@ -59,22 +61,51 @@ fn thawed(alloc: Global, job: &str, more: &str) -> Result<Thawed, ThawFault> {
     thaw(alloc, text.as_slice())
 }
 
-/// How many letters of the scripts of both processes are left, and the state at which the automaton starts.
-fn left_in(alloc: Global, text: &str) -> Option<(usize, usize, u8)> {
-    let thawed = thawed(alloc, text, "").ok()?;
-    if thawed.rest.processes() != 2 {
-        return None;
+/// The printed form of the job that the text is thawed to, and the state at which the automaton starts.
+fn job_in(rt: &impl Abort, alloc: Global, text: &str) -> Result<(Vec<u8>, u8), Fail> {
+    let thawed = thawed(alloc, text, "").ok().ok_or("refused")?;
+    assert!(rt; thawed.job.scripts.fits(thawed.job.lang.alphabet()));
+    let printed = print_job(alloc, &thawed.job)?;
+    Ok((printed, thawed.closed.dfa().start()))
+}
+
+/// For each process the letters that are left of its script where the text is thawed.
+fn rest_in(alloc: Global, text: &str) -> Result<Vec<Word>, Fail> {
+    let rest = thawed(alloc, text, "").ok().ok_or("refused")?.rest;
+    let mut words = Vec::new(alloc);
+    for p in 0..rest.processes() {
+        words.push(rest.script(p).copy()?)?;
     }
-    let left = thawed.rest.script(0).len();
-    let right = thawed.rest.script(1).len();
-    Some((left, right, thawed.closed.dfa().start()))
+    Ok(words)
 }
 
 #[test]
-fn frozen_jobs_are_thawed(rt: HostRuntime) {
-    for (text, left) in [(FROZEN, (2, 1, 1)), (STUCK_FROZEN, (2, 0, 0))] {
-        assert_eq!(rt; left_in(rt.alloc(), text), Some(left));
+fn frozen_jobs_are_thawed(rt: HostRuntime) -> Result<(), Fail> {
+    for (text, job, start) in [(FROZEN, JOB, 1), (STUCK_FROZEN, STUCK, 0)] {
+        let (printed, starts_at) = job_in(&rt, rt.alloc(), text)?;
+        assert!(rt; printed.as_slice() == job.as_bytes(), "{text}");
+        assert_eq!(rt; starts_at, start, "{text}");
     }
+    Ok(())
+}
+
+/// The letters `a` and `c` by their numbers.
+const A: Letter = Letter(0);
+
+const C: Letter = Letter(2);
+
+#[test]
+fn rests_of_scripts_are_thawed(rt: HostRuntime) -> Result<(), Fail> {
+    for (text, first, second) in [
+        (FROZEN, [C, A].as_slice(), [C].as_slice()),
+        (STUCK_FROZEN, [C, A].as_slice(), [].as_slice()),
+    ] {
+        let rest = rest_in(rt.alloc(), text)?;
+        assert_eq!(rt; rest.len(), 2, "{text}");
+        assert!(rt; rest[0].letters() == first, "{text}");
+        assert!(rt; rest[1].letters() == second, "{text}");
+    }
+    Ok(())
 }
 
 /// The refusal of the job's text with more behind it, where a line is wrong.

@@ -165,7 +165,8 @@ fn compared(alloc: Global, bytes: &[u8], said: &Said, closed: &Closed) -> Result
     Ok(Left { state, rest })
 }
 
-/// What is left of the job of a frozen text of fewer than 4,294,967,295 bytes.
+/// What is left of the job of a frozen text of fewer than 4,294,967,295 bytes: the minimal automaton of its language,
+/// started at the state that the frozen local states together say (Mukund 2012), and what is left of the scripts.
 ///
 /// The text is refused as its job is, whose lines are those before the first that begins with `cut`; or as
 /// this line is, of which `NoSuchCut` says that fewer events fire; where there is no such line, at one more

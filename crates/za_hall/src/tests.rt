@@ -257,6 +257,7 @@ fn desks_are_handed_in_in_any_order(rt: HostRuntime) -> Result<(), Fail> {
         (1, Turn::Ended),
         (0, Turn::Fired { at: 1 }),
         (0, Turn::Ended),
+        (0, Turn::Over),
         (1, Turn::Over),
     ];
     try_all(&rt, &hall, &mut desks, &turns);

@@ -4,8 +4,11 @@ ghost use Rattle.za_lang.specs.Jobs.{IsJob};
 
 use super::*;
 use std::alloc::Global;
+use std::process::Abort;
 use std::test::Fail;
-use za_lang::JobFault;
+use za_alpha::{Alphabet, Letter, Procs};
+use za_lang::{JobFault, Lang};
+use za_script::Scripts;
 use za_text::{Kind, TextFault};
 
 /// Two processes with a letter each and one that they share. With its end it is a job of 17 lines.
@@ -70,25 +73,100 @@ fn processes_know_the_latest_readings(rt: HostRuntime) -> Result<(), Fail> {
     Ok(())
 }
 
+/// Compares the readings at each index with lists for three processes, of which the last is none.
+fn assert_readings(rt: &impl Abort, readings: &Readings, lists: &[[u32; 4]; 3]) {
+    for p in 0..3 {
+        for k in 0..4 {
+            assert_eq!(rt; readings.at(p, k), lists[p][k], "{p} {k}");
+        }
+    }
+}
+
 #[test]
 fn readings_are_0_past_their_list(rt: HostRuntime) -> Result<(), Fail> {
-    let job = read(
-        rt.alloc(),
-        TWO,
-        "readings\nread 1 5\nread 1 4294967295\nend\n",
-    )
-    .ok()
-    .ok_or("refused")?;
-    for (p, k, number) in [
-        (0, 0, 0),
-        (1, 0, 5),
-        (1, 1, 4294967295),
-        (1, 2, 0),
-        (2, 0, 0),
+    for (job, rest, lists) in [
+        (TWO, "readings\nend\n", [[0; 4]; 3]),
+        (
+            TWO,
+            "readings\nread 1 5\nread 1 4294967295\nend\n",
+            [[0; 4], [5, 4294967295, 0, 0], [0; 4]],
+        ),
+        (
+            NAMED,
+            "readings\nread left 10\nread right 5\nread left 20 30\nend\n",
+            [[10, 20, 30, 0], [5, 0, 0, 0], [0; 4]],
+        ),
     ] {
-        assert_eq!(rt; job.readings.at(p, k), number, "{p} {k}");
+        let read = read(rt.alloc(), job, rest).ok().ok_or("refused")?;
+        assert_readings(&rt, &read.readings, &lists);
     }
-    assert_eq!(rt; job.job.scripts.total(), 5);
+    Ok(())
+}
+
+/// The letters of the jobs of two processes: their names, and a bit for each of their processes.
+const LETTERS: [(&[u8], u16); 3] = [(b"a", 0b01), (b"b", 0b10), (b"c", 0b11)];
+
+fn assert_letters(rt: &impl Abort, alphabet: &Alphabet) {
+    assert!(rt; alphabet.processes() == 2 && alphabet.letters() == 3);
+    for a in 0..3u8 {
+        let (name, processes) = LETTERS[a as usize];
+        assert!(rt; alphabet.name(Letter(a)) == name, "{a}");
+        assert_eq!(rt; alphabet.loc(Letter(a)), Procs(processes), "{a}");
+    }
+}
+
+/// Where the letters lead from both states of these jobs.
+const TARGETS: [[u8; 3]; 2] = [[1, 0, 0], [0, 1, 1]];
+
+fn assert_table(rt: &impl Abort, lang: &Lang) {
+    assert!(rt; lang.states() == 2 && lang.alphabet().letters() == 3);
+    assert_eq!(rt; lang.start(), 0);
+    for q in 0..2u8 {
+        assert_eq!(rt; lang.accepting(q), q == 0, "{q}");
+        for a in 0..3u8 {
+            let target = TARGETS[q as usize][a as usize];
+            assert_eq!(rt; lang.target(q, Letter(a)), Some(target), "{q} {a}");
+        }
+    }
+}
+
+fn assert_names(rt: &impl Abort, lang: &Lang, version: u8, names: [&[u8]; 2]) {
+    assert_eq!(rt; lang.version(), version);
+    assert_eq!(rt; lang.names().len(), 2);
+    for p in 0..2 {
+        assert!(rt; lang.names().of(p) == names[p], "{p}");
+    }
+}
+
+/// Compares scripts with `a c a` and `b c`.
+fn assert_scripts(rt: &impl Abort, scripts: &Scripts) {
+    assert!(rt; scripts.processes() == 2 && scripts.total() == 5);
+    assert!(rt; scripts.script(0).letters() == [Letter(0), Letter(2), Letter(0)].as_slice());
+    assert!(rt; scripts.script(1).letters() == [Letter(1), Letter(2)].as_slice());
+}
+
+#[test]
+fn jobs_are_read_whole(rt: HostRuntime) -> Result<(), Fail> {
+    for (job, rest, version, names) in [
+        (
+            TWO,
+            "readings\nread 0 1\nend\n",
+            1,
+            [b"0".as_slice(), b"1".as_slice()],
+        ),
+        (
+            NAMED,
+            "readings\nread right 1\nend\n",
+            2,
+            [b"left".as_slice(), b"right".as_slice()],
+        ),
+    ] {
+        let job = read(rt.alloc(), job, rest).ok().ok_or("refused")?.job;
+        assert_names(&rt, &job.lang, version, names);
+        assert_letters(&rt, job.lang.alphabet());
+        assert_table(&rt, &job.lang);
+        assert_scripts(&rt, &job.scripts);
+    }
     Ok(())
 }
 

@@ -88,8 +88,8 @@ fn push_lines(
 /// What each process knows of each after the weave of the job's scripts, where each event writes the
 /// next reading of its least participant: for each process a line of `known`, its name, and for each
 /// process in order the number that the latest event of it wrote that the process knows, or a hyphen
-/// where it knows none. It is told by bounded labels alone. The job's scripts fit its alphabet, as those
-/// of each job that is read do. Want of memory is the one free answer.
+/// where it knows none. It is told by bounded labels alone (Mukund and Sohoni 1997). The job's scripts fit
+/// its alphabet, as those of each job that is read do. Want of memory is the one free answer.
 pub fn news_text(alloc: Global, job: &NewsJob) -> Result<Vec<u8>, OutOfMemory>
     requires { FitAlphabet job.now.job.lang.table.alphabet job.now.job.scripts }
     ensures { IfOk result (λ text. text.items ≡ news_text (data_of job.now.job) job.now.readings) }

@@ -24,7 +24,7 @@ pub enum Judged {
 /// The language is that of the job's table, where a missing row entry leads to a state from which nothing is
 /// accepted. Where it is closed, its minimal automaton is answered. Where it isn't, the refusal is answered that is
 /// due for the job whatever is asked of it: status 5, and the text of two equivalent words of which one is accepted,
-/// those of the least break, the left word first. The scripts are not read. Want of memory is the one free answer, and
+/// those of the least break, the left word first. Want of memory is the one free answer, and
 /// the job is unchanged in any case.
 pub fn judge(alloc: Global, job: &Job) -> Result<Judged, OutOfMemory>
     ensures { IfOk result (IsJudgement (data_of job.now)) }

@@ -76,7 +76,7 @@ fn frozen(alloc: Global, cut: u32, bytes: &[u8]) -> Result<Said, OutOfMemory>
 /// A text in which a line is wrong is refused with status 4, at its first wrong line and with the kind of the first of
 /// this line's tests that fails. For news and a frozen text its language has to be closed under trace equivalence: any
 /// other is refused with status 5, by two equivalent words of which one is accepted, the least. Else the status is 0
-/// with what is asked for. The scripts are woven, but not run. Want of memory is the one free answer.
+/// with what is asked for, by the weave of the scripts. Want of memory is the one free answer.
 pub fn reply(alloc: Global, query: Query, bytes: &[u8]) -> Result<Said, OutOfMemory>
     requires { length bytes.now < 4294967295 }
     ensures { IfOk result (λ said. IsReply query bytes.now said.status said.text.items) }

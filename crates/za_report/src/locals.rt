@@ -15,8 +15,8 @@ use za_table::Ended;
 use za_write::{push_entries, push_number, push_pieces, push_word};
 
 /// What a process knows, each part after a space: the latest event of each process that it knows, and the
-/// state of the automaton after all events that it knows. It is read off its local state after some word
-/// alone. Want of memory is the one free answer.
+/// state of the automaton after all events that it knows, as its local state after some word has it. Want of
+/// memory is the one free answer.
 pub fn push_known(text: &mut Vec<u8>, closed: &Closed, local: &Local) -> Result<(), OutOfMemory>
     requires { (w : List ℕ) × (p : ℕ) × IsWord (length closed.now.alphabet.letters) w
         × (local.now ≡ local_after closed.now w p) }
@@ -54,7 +54,7 @@ fn push_local(
 }
 
 /// The text of what each process knows at the end of a run: the latest event of each process that it knows,
-/// and the state of the automaton after all events that it knows. It is read off the local states alone.
+/// and the state of the automaton after all events that it knows, as the local states have it.
 ///
 /// The automaton equals that of the table that ended. Want of memory is the one free answer.
 pub fn locals_text(alloc: Global, closed: &Closed, ended: &Ended) -> Result<Vec<u8>, OutOfMemory>

@@ -8,7 +8,7 @@ use za_alpha::{MOST_PROCESSES, Procs};
 use za_ids::EventId;
 
 /// Which pasts to leave out of the residues of some processes, the inputs, where they are taken one
-/// after another (Mukund 2012). Inputs count from 0, and entries that have no input are empty.
+/// after another (Mukund 2012). Inputs count from 0.
 #[derive(Clone, Copy, Debug)]
 pub struct Masks {
     /// For each input, the processes whose latest event that it knows is the latest of some process

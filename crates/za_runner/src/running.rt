@@ -193,7 +193,8 @@ fn run_hall<R: Threads + Wait + Sync, G: Gate>(
 /// Runs the scripts with a thread for each process, until all is over. Worker `p` is a thread that owns
 /// the desk of process `p`: it passes `gate` before each of its steps, and steps until all is over. Where
 /// a thread can't be started, its worker is called off, and the caller steps that desk itself; there is
-/// no error for it. The scripts fit the alphabet; up to `cache` transitions are kept.
+/// no error for it. No clause speaks of threads or of the gate. The scripts fit the alphabet; up to `cache`
+/// transitions are kept.
 ///
 /// If it returns, the table of the closed hall is over. Want of memory is the one free answer; it comes
 /// before any step, and then nothing was run.

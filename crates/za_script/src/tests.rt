@@ -2,7 +2,7 @@ use super::*;
 use std::alloc::Global;
 use std::process::Abort;
 use std::test::Fail;
-use za_alpha::{Alphabet, Letter, LetterRow, Word};
+use za_alpha::{Alphabet, Letter, LetterRow, OutOfMemory, Word};
 use za_dfa::Dfa;
 
 const TWO_PROCESSES: [(&[u8], &[u32]); 3] = [(b"a", &[0]), (b"b", &[1]), (b"c", &[0, 1])];
@@ -186,6 +186,71 @@ fn two_processes_weave(rt: HostRuntime) -> Result<(), Fail> {
     let alphabet = alphabet_of(alloc, 2, &TWO_PROCESSES)?;
     for case in &CASES {
         assert_weave(&rt, alloc, &alphabet, case)?;
+    }
+    Ok(())
+}
+
+/// The scripts of two processes, a word that they begin with, how many letters of the word each process
+/// has, and what the word leaves of both scripts.
+type RestCase = (
+    &'static [u8],
+    &'static [u8],
+    &'static [u8],
+    (usize, usize),
+    (&'static [u8], &'static [u8]),
+);
+
+fn word_of(alloc: Global, letters: &[u8]) -> Result<Word, OutOfMemory> {
+    let mut word = Word::new(alloc);
+    for a in letters {
+        word.push(Letter(*a))?;
+    }
+    Ok(word)
+}
+
+fn assert_rest(
+    rt: &impl Abort,
+    alloc: Global,
+    alphabet: &Alphabet,
+    case: &RestCase,
+) -> Result<(), Fail> {
+    let (first, second, letters, counts, left) = *case;
+    let scripts = scripts_of(rt, alloc, alphabet, first, second)?;
+    let word = word_of(alloc, letters)?;
+    assert!(rt; alphabet.has_word(&word));
+    assert_eq!(rt;
+        count_of(alphabet, 0, word.letters()),
+        counts.0,
+        "{letters:?}"
+    );
+    assert_eq!(rt;
+        count_of(alphabet, 1, word.letters()),
+        counts.1,
+        "{letters:?}"
+    );
+    let rest = scripts.rest(alphabet, word.letters())?;
+    assert_eq!(rt; rest.processes(), 2);
+    assert_script(rt, &rest, 0, left.0);
+    assert_script(rt, &rest, 1, left.1);
+    assert_eq!(rt; Some(rest.total()), left.0.len().checked_add(left.1.len()));
+    Ok(())
+}
+
+const RESTS: [RestCase; 6] = [
+    (&[0, 2, 0], &[1, 2], &[], (0, 0), (&[0, 2, 0], &[1, 2])),
+    (&[0, 2, 0], &[1, 2], &[1], (0, 1), (&[0, 2, 0], &[2])),
+    (&[0, 2, 0], &[1, 2], &[0, 1], (1, 1), (&[2, 0], &[2])),
+    (&[0, 2, 0], &[1, 2], &[0, 1, 2], (2, 2), (&[0], &[])),
+    (&[0, 2, 0], &[1, 2], &[0, 1, 2, 0], (3, 2), (&[], &[])),
+    (&[2, 0], &[1], &[1], (0, 1), (&[2, 0], &[])),
+];
+
+#[test]
+fn words_leave_rests_of_scripts(rt: HostRuntime) -> Result<(), Fail> {
+    let alloc = rt.alloc();
+    let alphabet = alphabet_of(alloc, 2, &TWO_PROCESSES)?;
+    for case in &RESTS {
+        assert_rest(&rt, alloc, &alphabet, case)?;
     }
     Ok(())
 }

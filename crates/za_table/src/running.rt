@@ -12,8 +12,9 @@ use za_alpha::OutOfMemory;
 use za_dfa::Closed;
 use za_script::Scripts;
 
-/// Runs a table on one thread until it is over. Its word is the weave of the scripts, and its answer is
-/// that of the automaton to them. Want of memory is the one free answer.
+/// Runs a table on one thread until it is over. The scripts fit the automaton's alphabet, and up to `cache`
+/// transitions are kept. Its word is the weave of the scripts, and its answer is that of the automaton to
+/// them. Want of memory is the one free answer.
 pub fn solo(
     alloc: Global,
     closed: Closed,

@@ -28,7 +28,8 @@ use za_shared::SharedLocals;
 
 /// A state of the core machine for an automaton and scripts, one for each process: a journal of the
 /// letters that were fired, who has arrived at its next letter and who has ended. For each process
-/// the table keeps its local state after the journal, and for each letter who has it in hand.
+/// the table keeps its local state after the journal, and for each letter who has it in hand. So it is
+/// an asynchronous automaton at work (Zielonka 1987), by the local states of Mukund 2012.
 #[derive(Drop)]
 pub struct Table {
     pub(crate) shared: SharedLocals,
@@ -53,7 +54,8 @@ impl Model for Table {
 
 impl Table {
     /// A table at the start: the journal is empty, nobody has arrived or ended or has a letter in hand,
-    /// and every process has the opening local state. It keeps up to `cache` transitions. All memory
+    /// and every process has the opening local state. The scripts fit the automaton's alphabet: one for each
+    /// process, of letters in which it takes part. The table keeps up to `cache` transitions. All memory
     /// is taken here, for the whole journal too, but what lines of the cache ask for; where these are
     /// refused any, a line is not kept. Want of memory is the one free answer.
     pub fn open(

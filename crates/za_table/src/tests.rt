@@ -256,6 +256,12 @@ fn assert_taken(rt: &impl Abort, table: &Table, a: Letter)
     assert!(rt; !table.over());
 }
 
+/// Who has a letter in hand.
+fn holder(rt: &impl Abort, table: &Table, a: Letter) -> Option<usize> {
+    assert!(rt; (a.0 as usize) < table.closed().dfa().alphabet().letters());
+    table.in_hand(a)
+}
+
 #[test]
 fn settled_by_what_was_made(rt: HostRuntime) -> Result<(), Fail> {
     let alloc = rt.alloc();
@@ -266,6 +272,7 @@ fn settled_by_what_was_made(rt: HostRuntime) -> Result<(), Fail> {
     assert_eq!(rt; bench.len(), 1);
     assert_taken(&rt, &table, A);
     assert_eq!(rt; table.settle(A, 0, &bench, &made), 0);
+    assert_eq!(rt; holder(&rt, &table, A), None);
     assert_process(&rt, &table, 0);
     assert!(rt; *table.local(0) == made);
     Ok(())
@@ -281,18 +288,59 @@ fn settle_anew(table: &mut Table, a: Letter, bench: &mut Bench, made: &Local) ->
     table.settle(a, 0, bench, made)
 }
 
+/// Both processes arrive at `c`, once `a` and `b` have fired.
+fn arrive_at_c(rt: &impl Abort, table: &mut Table) {
+    assert_eq!(rt; arrive(rt, table, 0), Arrival::Complete(A));
+    assert_eq!(rt; fire(rt, table, A), 0);
+    assert_eq!(rt; arrive(rt, table, 1), Arrival::Complete(B));
+    assert_eq!(rt; fire(rt, table, B), 1);
+    arrive(rt, table, 0);
+    assert_eq!(rt; arrive(rt, table, 1), Arrival::Complete(C));
+}
+
+/// Both processes have the local state that was made, and nobody has the letter in hand.
+fn assert_made_for_both(rt: &impl Abort, table: &Table, a: Letter, made: &Local) {
+    assert_eq!(rt; holder(rt, table, a), None);
+    for p in 0..2 {
+        assert_process(rt, table, p);
+        assert!(rt; *table.local(p) == *made);
+    }
+    assert_eq!(rt; table.live(), 1);
+}
+
 #[test]
 fn settled_though_the_bench_was_cleared(rt: HostRuntime) -> Result<(), Fail> {
     let alloc = rt.alloc();
     let closed = to_and_fro(&rt, alloc)?;
     let mut table = table_of(&rt, alloc, closed, &ACA_BC, 0)?;
-    assert_eq!(rt; arrive(&rt, &mut table, 0), Arrival::Complete(A));
-    let (mut bench, made) = take(&rt, alloc, &mut table, A)?;
-    assert_eq!(rt; settle_anew(&mut table, A, &mut bench, &made), 0);
+    arrive_at_c(&rt, &mut table);
+    let (mut bench, made) = take(&rt, alloc, &mut table, C)?;
+    assert_eq!(rt; settle_anew(&mut table, C, &mut bench, &made), 2);
     assert_eq!(rt; bench.len(), 0);
-    assert_process(&rt, &table, 0);
-    assert!(rt; *table.local(0) == made);
-    assert_eq!(rt; table.live(), 2);
+    assert_made_for_both(&rt, &table, C, &made);
+    Ok(())
+}
+
+/// Puts a letter back that process 0 has in hand: nobody then has it, and it is complete.
+fn put_back(rt: &impl Abort, table: &mut Table, a: Letter)
+    requires { hand table.old.hands a.0 ≡ Some 0 }
+{
+    table.put_back(a);
+    assert_eq!(rt; holder(rt, table, a), None);
+    assert!(rt; (a.0 as usize) < table.closed().dfa().alphabet().letters());
+    assert!(rt; table.complete(a));
+}
+
+#[test]
+fn put_back_and_fired_after_all(rt: HostRuntime) -> Result<(), Fail> {
+    let alloc = rt.alloc();
+    let closed = to_and_fro(&rt, alloc)?;
+    let mut table = table_of(&rt, alloc, closed, &ACA_BC, 0)?;
+    arrive_at_c(&rt, &mut table);
+    let (_, made) = take(&rt, alloc, &mut table, C)?;
+    put_back(&rt, &mut table, C);
+    assert_eq!(rt; fire(&rt, &mut table, C), 2);
+    assert_made_for_both(&rt, &table, C, &made);
     Ok(())
 }
 

@@ -24,7 +24,8 @@ use Rattle.za_theorem.specs.Machine.{IsOfLocals, IsRun}
 abbrev pub ZielonkasTheorem : Type 0
 ZielonkasTheorem =
     (loc : ℕ → List ℕ) (letters processes : ℕ) (language : List ℕ → Bool) → AreProcesses loc letters processes →
-    (IsDistributable loc letters processes language ↔ (IsRegular letters language × IsClosedLanguage loc letters language))
+    (IsDistributable loc letters processes language ↔
+    (IsRegular letters language × IsClosedLanguage loc letters language))
 
 -- where each letter has a participant, exactly if an automaton with every diamond accepts it
 abbrev pub DistributableByDiamonds : Type 0

@@ -192,11 +192,11 @@ module _ (asked : Request) (old new : Ends) where
   counts_run (NoMemory few same nothing) = (λ h. same, λ h. nothing.1)
 
   -- status 8
-  no_memory_run : {status : ℕ} → HasRun asked old new status → status ≡ 8 → WroteNothing old new
+  no_memory_run : {status : ℕ} → HasRun asked old new status → status ≡ 8 → WroteNothing old new × (reads_bytes asked ≡ false → ReadNothing old new)
   no_memory_run (Wrote status text due whole) e = absurd (never_due status 8 (due_status due) (omega arith) (omega arith) refl e)
   no_memory_run (WriteFault status k text due part) e = absurd (omega arith)
   no_memory_run (ReadFault reads few rose nothing) e = absurd (omega arith)
-  no_memory_run (NoMemory few same nothing) e = nothing
+  no_memory_run (NoMemory few same nothing) e = (nothing, λ unread. (few.1 unread, same))
 
   -- status 9
   too_long_due : {status : ℕ} {text : List ℕ} → IsDue asked old new status text → status ≡ 9 → (reads_bytes asked ≡ true) × ReadTooMany old new

@@ -1,12 +1,12 @@
 -- What a run has done, by what was due and what was said.
-use Rattle.std.proofs.Common.{◌≡◌, ℕ, ◌≤◌, List, [], Option, Some, None, refl, subst, arith}
+use Rattle.std.proofs.Common.{◌≡◌, ℕ, ◌≤◌, true, false, List, [], Option, Some, None, refl, sym, subst, ◌∙◌, arith}
 use Rattle.za_base.specs.Read.{Took}
 use Rattle.za_base.specs.Ends.{Ends}
 use Rattle.za_gen.specs.Generated.{generated_text}
 use Rattle.zielonka.specs.Limits.{most_bytes}
 use Rattle.zielonka.specs.declared.request.Request.{Request}
 use Rattle.zielonka.specs.declared.request.Request.TheVariants.{Generate as AsksJob}
-use Rattle.zielonka.specs.Run.{ReadNothing, HasSaid, Whole, Part, IsDue, Generated, HasRun, Wrote, WriteFault}
+use Rattle.zielonka.specs.Run.{reads_bytes, ReadNothing, HasSaid, Whole, Part, IsDue, Generated, HasRun, Wrote, WriteFault}
 
 pub said-run : (asked : Request) (old new : Ends) (status : ℕ) (text : List ℕ) {s : ℕ} → IsDue asked old new status text →
     HasSaid status text old.written new.written old.write_faults new.write_faults s → HasRun asked old new s
@@ -31,6 +31,10 @@ said-job asked old new number text {s = s} asks nothing is said =
 pub took-nothing : (left : Option (List ℕ)) → Took left left (λ n. n ≤ most_bytes)
 took-nothing None = ([], (tt, omega arith))
 took-nothing (Some bytes) = ([], (refl, omega arith))
+
+-- what is asked of bytes reads them
+pub reads-unread : (asked : Request) {A : Type 0} → reads_bytes asked ≡ true → reads_bytes asked ≡ false → A
+reads-unread asked reads unread = let both : true ≡ false = sym reads ∙ unread in absurd (cc)
 
 -- what was done is told of what is asked alone
 pub run-moves : (asked other : Request) (old new : Ends) (status : ℕ) → asked ≡ other → HasRun asked old new status → HasRun other old new status

@@ -12,7 +12,7 @@ use Rattle.za_freeze.specs.Thawing.{frozen_job}
 use Rattle.za_gen.specs.Generated.{generated_text}
 use Rattle.zielonka.specs.Limits.{most_bytes}
 use Rattle.zielonka.specs.Output.{IsAnswered, Answered, IsOutput, Read, SubjectData, subject_of}
-use Rattle.zielonka.specs.Run.{reads_bytes, IsOutputOf, ReadNothing, ReadAll, ReadTooMany, WroteNothing, HasSaid, IsDue, Said, HasRun, NoMemory}
+use Rattle.zielonka.specs.Run.{reads_bytes, IsOutputOf, ReadNothing, ReadAsAsked, ReadAll, ReadTooMany, WroteNothing, HasSaid, IsDue, Said, HasRun, NoMemory}
 use Rattle.zielonka.specs.Shown.{runs_scripts, IsClosed, AreClosedJob, IsMadeByRest, is_of_a_run, IsShown, Finished, FinishedRest, Unshown}
 use Rattle.zielonka.specs.Private.Saying.{subject_at, IsRestBy, IsMadeOfShown, OfRun, OfNone, IsRestMadeOfShown, HasEnded, IsAsked, HasTold}
 use Rattle.zielonka.specs.declared.due.Output.{Output}
@@ -28,7 +28,7 @@ use Rattle.zielonka.specs.declared.status.Shown.TheVariants.{Nothing}
 use Rattle.zielonka.proofs.Causes.{read-not-job, one-command, taken_within, all_taken}
 use Rattle.zielonka.proofs.DueLemmas.{ok_map, ok_and}
 use Rattle.zielonka.proofs.FrozenLemmas.{own-whole, left-says, left-closed}
-use Rattle.zielonka.proofs.RunLemmas.{said-run, said-job}
+use Rattle.zielonka.proofs.RunLemmas.{said-run, said-job, reads-unread}
 
 module _ (asked : Request) (old new : Ends) (status : ℕ) where
   -- with another status nothing is shown
@@ -112,7 +112,8 @@ module _ (asked : Request) (old mid new : Ends) (command : Command) (bytes : Lis
         shown = subst (IsShown asked old new outcome.status.0) (sym told.1) (due.1 outcome.status.0 said);
       }
   ended-of (Err none) due told =
-      ended-silent asked old new outcome 8 told.0 told.1 (NoMemory (bytes, (all.1, all.0)) all.3 (told.2 ∙ nothing.0, told.3 ∙ nothing.1)) refl
+      let read : ReadAsAsked asked old new = ((bytes, (all.1, all.0)), λ unread. reads-unread asked (ap reads_bytes asks) unread) in
+      ended-silent asked old new outcome 8 told.0 told.1 (NoMemory read all.3 (told.2 ∙ nothing.0, told.3 ∙ nothing.1)) refl
 
 -- nothing was read since
 still-all : (old mid new : Ends) (bytes : List ℕ) → new.left ≡ mid.left → new.read_faults ≡ mid.read_faults → ReadAll old mid bytes → ReadAll old new bytes

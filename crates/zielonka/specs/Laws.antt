@@ -95,9 +95,11 @@ TooManyComplete =
     ¬ Rises old.read_faults new.read_faults → ¬ Rises old.write_faults new.write_faults →
     (status ≡ 8) ⊎ ((status ≡ 9) × WroteAll old new too_long_text)
 
--- status 8 comes with nothing written
+-- status 8 comes with nothing written, and with nothing read where nothing is asked of bytes
 abbrev pub NoMemoryWritesNothing : Type 0
-NoMemoryWritesNothing = (asked : Request) (old new : Ends) → HasRun asked old new 8 → WroteNothing old new
+NoMemoryWritesNothing =
+    (asked : Request) (old new : Ends) → HasRun asked old new 8 →
+    WroteNothing old new × (reads_bytes asked ≡ false → ReadNothing old new)
 
 -- whether the status is that of bytes that were read
 abbrev pub is_of_bytes : ℕ → Bool

@@ -46,6 +46,10 @@ ReadAll old new bytes =
 abbrev pub ReadNotTooMany : Ends → Ends → Type 0
 ReadNotTooMany old new = Took old.left new.left (λ n. n ≤ most_bytes)
 
+-- nor any where nothing is asked of bytes
+abbrev pub ReadAsAsked : Request → Ends → Ends → Type 0
+ReadAsAsked asked old new = ReadNotTooMany old new × (reads_bytes asked ≡ false → new.left ≡ old.left)
+
 -- one byte more than the limit was taken from the source
 abbrev pub ReadTooMany : Ends → Ends → Type 0
 ReadTooMany old new = Took old.left new.left (λ n. n ≡ most_bytes + 1) × NoReadFailed old new
@@ -91,4 +95,4 @@ pub data HasRun (asked : Request) (old new : Ends) : ℕ → Type 0 where
   ReadFault : IsTrue (reads_bytes asked) → ReadNotTooMany old new → Rises old.read_faults new.read_faults →
       WroteNothing old new → HasRun asked old new 6
   -- want of memory
-  NoMemory : ReadNotTooMany old new → NoReadFailed old new → WroteNothing old new → HasRun asked old new 8
+  NoMemory : ReadAsAsked asked old new → NoReadFailed old new → WroteNothing old new → HasRun asked old new 8

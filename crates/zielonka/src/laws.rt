@@ -33,7 +33,7 @@ pub fn something_is_due()
     ensures { SomethingIsDue }
 {}
 
-/// What is due on threads is what is due on one: for the same bytes `run` ends with the status and the text
+/// What is due on threads is what is due on one: for the same bytes `run` is due to end with the status and the text
 /// of `solo`, and `journal` with its status.
 pub fn threads_answer_as_one()
     ensures run { ThreadsAnswerAsOne }
@@ -41,8 +41,8 @@ pub fn threads_answer_as_one()
 {}
 
 /// `thaw` goes on where `freeze` stopped: for the frozen text of a document whose language is trace-closed, after
-/// any number of events, it ends with the status and the text of `solo` for the document. Such texts, and no other
-/// bytes, are what it reads with a trace-closed language.
+/// any number of events, it is due to end with the status and the text of `solo` for the document. Such texts, and
+/// no other bytes, are what it reads with a trace-closed language.
 pub fn thaw_goes_on()
     ensures due { ThawGoesOn }
     ensures read { FrozenTextsAreRead }
@@ -65,20 +65,19 @@ pub fn refusals_are_exact()
     ensures open { OpenExactly }
 {}
 
-/// What a run did tells the cause of its status. Status 2 comes only of words that are in no form, with
-/// nothing read and the usage line written whole; and such words have no other status but 7 and 8. Words
-/// that ask for a generated job have no status but 7, 8 and 0, with the job written whole and nothing
-/// read; without a fault of the sink 8 or 0. Status 6 comes only where the source's count of faults rose
-/// before too many bytes were taken, with nothing written, and 7 only where the sink's did, after a
-/// proper prefix of a text that is due; with any other status that count is what it was. Status 9 comes
-/// only where one byte more than the limit was taken, and its line was written whole; where the source
-/// tells its bytes, a run that took so many, with no read that failed, ends with 9, 7 or 8. Status 8,
-/// want of memory, comes with nothing written. But for the 0 of a generated job each of 0, 1, 3, 4 and 5
-/// comes only where all bytes were read, and the text that is due for them was written whole. There are
-/// no statuses but 0 to 9. Where the source tells its bytes and neither count of faults rose, whatever is
-/// asked of them ends with 8, or, of too many, with 9, or else with what is due for all bytes. A count
-/// that stands at its last value counts as one that rose. What is said of bytes holds of sources and
-/// sinks that tell them.
+/// What a run did tells the cause of its status. Status 2 comes only of words that are in no form, with nothing
+/// read and the usage line written whole; and such words have no other status but 7 and 8. Words that ask for a
+/// generated job have no status but 7, 8 and 0, with the job written whole and nothing read; without a fault of the
+/// sink 8 or 0. Status 6 comes only where the source's count of faults rose before too many bytes were taken, with
+/// nothing written, and 7 only where the sink's did, after a proper prefix of a text that is due; with any other
+/// status that count is what it was. Status 9 comes only where one byte more than the limit was taken, and its line
+/// was written whole; where the source tells its bytes, a run that took so many, with no read that failed, ends
+/// with 9, 7 or 8. Status 8, want of memory, comes with nothing written, and with nothing read where nothing is
+/// asked of bytes. But for the 0 of a generated job each of 0, 1, 3, 4 and 5 comes only where all bytes were read,
+/// and the text that is due for them was written whole. There are no statuses but 0 to 9. Where the source tells
+/// its bytes and neither count of faults rose, whatever is asked of them ends with 8, or, of too many, with 9, or
+/// else with what is due for all bytes. A count that stands at its last value counts as one that rose. What is said
+/// of bytes holds of sources and sinks that tell them.
 pub fn statuses_have_their_causes()
     ensures usage { UsageIsOfTheWords }
     ensures words { WordsDecideTheUsage }

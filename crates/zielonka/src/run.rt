@@ -181,11 +181,10 @@ fn finish<K: Sink>(sink: &mut K, made: Result<Output, OutOfMemory>) -> Outcome
 /// from a number (0). The forms of `run`, `journal` and `thaw` are none here; those, and words in no form, are
 /// answered by the usage line (2). Then, and with `gen`, the source isn't read.
 ///
-/// The scripts of `solo` and of `locals` are run on one thread, on the local states of the processes alone,
-/// with so many rows of a cache as the words say, which the printed bound counts. Where a text was made so,
-/// it is shown by the finished run: its automaton is the minimal one of the job's language, its scripts are
-/// the job's, its word is the weave, and its answer is the one to the scripts. With a status of 0, 1, 3
-/// or 7 nothing is shown only where no such text was due.
+/// The scripts of `solo` and of `locals` are run on one thread, by the local states of the processes, with so many rows
+/// of a cache as the words say. No clause says how they are run; what a text was made of is shown, the finished run:
+/// its automaton is the minimal one of the job's language, its scripts are the job's, its word is the weave, and its
+/// answer is the one to the scripts. With a status of 0, 1, 3 or 7 nothing is shown only where no such text was due.
 ///
 /// Bytes that are no document, with `audit` no document with a claim after it, with `build` none with an expression and
 /// with `news` none with readings after it, are refused at their first wrong line (4), and more than 1,048,576 of them
@@ -193,7 +192,7 @@ fn finish<K: Sink>(sink: &mut K, made: Result<Output, OutOfMemory>) -> Outcome
 /// accepted (5), the least; that of `build` doesn't have to be closed. Status 6 comes
 /// only where the source's count of faults rose, with nothing written, and 7 only where the sink's did, after
 /// a proper prefix of the text that is due; a count that stands at its last value counts as one that rose.
-/// Status 8, want of memory, comes with nothing written.
+/// Status 8, want of memory, comes with nothing written, and with nothing read where the source isn't to be read.
 ///
 /// What is said of bytes holds where the source tells the bytes that it has left, and the sink those that
 /// were written to it.
@@ -222,11 +221,12 @@ pub fn plain<S: Source, K: Sink>(
 /// The program for the commands that run on threads: as `plain`, but of the forms it has those of `run`, `journal`
 /// and `thaw` alone, and all others are answered by the usage line (2).
 ///
-/// `run` runs the scripts in a hall, with a thread for each process, which passes `gate` before each of its steps.
-/// It ends with the status and the text of `solo`, whatever the schedule was, and the text is made of the closed
-/// hall, which is shown: its answer is the answer to the scripts, and its word is equivalent to the weave, in the order
-/// in which the threads fired it. `journal` runs them so too, and ends with that status. It writes this word, each
-/// letter with its label, and the answer as a claim, which `audit` reads after the job and says yes to.
+/// `run` runs the scripts in a hall, with a thread for each process, which passes `gate` before each of its steps;
+/// no clause speaks of threads or of the gate. It ends with the status and the text of `solo`, whatever the
+/// schedule was, and the text is made of the closed hall, which is shown: its answer is the answer to the scripts,
+/// and its word is equivalent to the weave, in the order in which the threads fired it. `journal` runs them so too,
+/// and ends with that status. It writes this word, each letter with its label, and the answer as a claim, which
+/// `audit` reads after the job and says yes to.
 ///
 /// `thaw` reads a frozen text, and runs what is left of its job so, with no rows of a cache: the scripts without the
 /// letters of the events that had happened, on the minimal automaton of the job's language, started at the state

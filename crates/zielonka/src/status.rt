@@ -7,7 +7,7 @@ use za_table::Ended;
 /// |---|---|
 /// | 0, 1, 3 | accept or done, or an audit that says yes; reject, or an audit that doesn't; stuck |
 /// | 2 | usage: the words are in no form of the call |
-/// | 4 | the input is no document, or isn't followed by what the words ask for, or for `thaw` is no frozen text |
+/// | 4 | the input isn't what the words ask for: a document, one with what follows it, a frozen text |
 /// | 5 | the language is not closed under trace equivalence |
 /// | 6, 7 | a read, a write failed |
 /// | 8 | want of memory |

@@ -10,7 +10,8 @@ use Rattle.za_alpha.specs.Private.Index.{IsIndex}
 
 -- names tell the letters apart
 abbrev pub AreNamedApart : List NamedLetter → Type 0
-AreNamedApart letters = (a b : ℕ) → a < length letters → b < length letters → name_at letters a ≡ name_at letters b → a ≡ b
+AreNamedApart letters =
+    (a b : ℕ) → a < length letters → b < length letters → name_at letters a ≡ name_at letters b → a ≡ b
 
 -- what holds of an alphabet holds, but that there is a letter
 pub record IsBegun (alphabet : DistributedAlphabet) : Type 0 where

@@ -3,7 +3,7 @@ use Rattle.za_query.specs.Replies.{IsReply}
 use Rattle.zielonka.specs.Limits.{most_bytes}
 use Rattle.zielonka.specs.declared.request.Request.TheVariants.{Ask as AsksReply}
 use Rattle.zielonka.specs.Run.{Said, NoMemory}
-use Rattle.zielonka.proofs.RunLemmas.{said-since}
+use Rattle.zielonka.proofs.RunLemmas.{said-since, reads-unread}
 use Rattle.zielonka.proofs.ShownLemmas.{none-by-request, ended-silent, ended-telling}
 use Rattle.zielonka.proofs.run.ask.Goals as goal
 
@@ -20,7 +20,8 @@ pub returns-in-Err-reply : goal.returns-in-Err-reply
 returns-in-Err-reply g c =
     let read = c.in-Ok.ensures (AsksReply c.args.query) refl in
     let none = c.unshown.ensures in
-    ended-silent _ _ _ _ 8 none.status none.shown (NoMemory (c.in-Ok.bytes.items, (read.0.1, read.0.0)) read.0.3 read.1) refl
+    ended-silent _ _ _ _ 8 none.status none.shown
+    (NoMemory ((c.in-Ok.bytes.items, (read.0.1, read.0.0)), λ unread. reads-unread (AsksReply c.args.query) refl unread) read.0.3 read.1) refl
 
 pub returns : goal.returns
 returns g c =

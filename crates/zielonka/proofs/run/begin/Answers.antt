@@ -7,7 +7,7 @@ use Rattle.zielonka.proofs.ShownLemmas.{none-by-request, ended-silent, ended-tel
 use Rattle.zielonka.proofs.run.begin.Goals as goal
 
 pub returns-in-Err : goal.returns-in-Err
-returns-in-Err g c = ended-silent _ _ _ _ 8 c.unshown.ensures.status c.unshown.ensures.shown (NoMemory (took-nothing _) refl (refl, refl)) refl
+returns-in-Err g c = ended-silent _ _ _ _ 8 c.unshown.ensures.status c.unshown.ensures.shown (NoMemory (took-nothing _, λ unread. refl) refl (refl, refl)) refl
 
 pub returns-in-Ok-Usage : goal.returns-in-Ok-Usage
 returns-in-Ok-Usage g c =
@@ -18,7 +18,7 @@ returns-in-Ok-Usage g c =
 pub returns-in-Err-job_of : goal.returns-in-Err-job_of
 returns-in-Err-job_of g c =
     let none = c.unshown-in-Err-job_of.ensures in
-    ended-silent _ _ _ _ 8 none.status none.shown (NoMemory (took-nothing _) refl (refl, refl)) refl
+    ended-silent _ _ _ _ 8 none.status none.shown (NoMemory (took-nothing _, λ unread. refl) refl (refl, refl)) refl
 
 pub returns-in-Ok : goal.returns-in-Ok
 returns-in-Ok g c =

@@ -1,6 +1,7 @@
 use Rattle.std.proofs.Common.{refl}
 use Rattle.zielonka.specs.Output.{too_long_text}
 use Rattle.zielonka.specs.Run.{TooLong, ReadFault, NoMemory}
+use Rattle.zielonka.proofs.RunLemmas.{reads-unread}
 use Rattle.zielonka.proofs.ShownLemmas.{none-by-length, ended-silent, ended-telling}
 use Rattle.zielonka.proofs.run.fetch.Goals as goal
 
@@ -16,7 +17,7 @@ pub returns-in-Err-OutOfMemory : goal.returns-in-Err-OutOfMemory
 returns-in-Err-OutOfMemory g c asked reads =
     let read = rw c.in-Err-OutOfMemory.field-0-is at c.in-Err-OutOfMemory.ensures in
     let none = c.unshown-in-Err-OutOfMemory.ensures in
-    ended-silent asked _ _ _ 8 none.status none.shown (NoMemory read.0 read.1 (refl, refl)) refl
+    ended-silent asked _ _ _ 8 none.status none.shown (NoMemory (read.0, λ unread. reads-unread asked reads unread) read.1 (refl, refl)) refl
 
 pub returns-in-Err-TooLong : goal.returns-in-Err-TooLong
 returns-in-Err-TooLong g c asked reads =

@@ -4,7 +4,7 @@ use Rattle.zielonka.specs.Output.{IsOutput}
 use Rattle.zielonka.specs.Run.{Said, NoMemory}
 use Rattle.zielonka.specs.Private.Saying.{AreJudged}
 use Rattle.zielonka.specs.declared.request.Request.TheVariants.{Answer as Asks}
-use Rattle.zielonka.proofs.RunLemmas.{said-since}
+use Rattle.zielonka.proofs.RunLemmas.{said-since, reads-unread}
 use Rattle.zielonka.proofs.ShownLemmas.{none-by-bytes, ended-silent, ended-telling}
 use Rattle.zielonka.proofs.run.take.Goals as goal
 
@@ -21,7 +21,8 @@ pub returns-in-Err-judge : goal.returns-in-Err-judge
 returns-in-Err-judge g c =
     let read = c.in-Ok.ensures (Asks c.args.command) refl in
     let none = c.unshown.ensures in
-    ended-silent _ _ _ _ 8 none.status none.shown (NoMemory (c.in-Ok.bytes.items, (read.0.1, read.0.0)) read.0.3 read.1) refl
+    ended-silent _ _ _ _ 8 none.status none.shown
+    (NoMemory ((c.in-Ok.bytes.items, (read.0.1, read.0.0)), λ unread. reads-unread (Asks c.args.command) refl unread) read.0.3 read.1) refl
 
 pub returns-in-Ok-Refused : goal.returns-in-Ok-Refused
 returns-in-Ok-Refused g c =

@@ -8,11 +8,13 @@ use Rattle.zielonka.proofs.run.top.Goals as goal
 
 pub returns-in-Err-clause-ran : goal.returns-in-Err-clause-ran
 returns-in-Err-clause-ran g c =
-    (ended-silent _ _ _ c.unshown.result 8 c.unshown.ensures.status c.unshown.ensures.shown (NoMemory (took-nothing _) refl (refl, refl)) refl).ran
+    let none = c.unshown.ensures in
+    (ended-silent _ _ _ c.unshown.result 8 none.status none.shown (NoMemory (took-nothing _, λ unread. refl) refl (refl, refl)) refl).ran
 
 pub returns-in-Err-clause-shown : goal.returns-in-Err-clause-shown
 returns-in-Err-clause-shown g c =
-    (ended-silent _ _ _ c.unshown.result 8 c.unshown.ensures.status c.unshown.ensures.shown (NoMemory (took-nothing _) refl (refl, refl)) refl).shown
+    let none = c.unshown.ensures in
+    (ended-silent _ _ _ c.unshown.result 8 none.status none.shown (NoMemory (took-nothing _, λ unread. refl) refl (refl, refl)) refl).shown
 
 pub returns-in-Ok-true-clause-ran : goal.returns-in-Ok-true-clause-ran
 returns-in-Ok-true-clause-ran g c =
