@@ -18,7 +18,5 @@ pub mod pasts;
 pub mod scripts;
 pub mod sensors;
 pub mod streams;
-#[cfg(test)]
-mod tests;
 pub mod texts;
 pub mod views;

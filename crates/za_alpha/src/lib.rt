@@ -18,6 +18,3 @@ pub use letters::Letters;
 pub use procs::Procs;
 pub use rows::{MOST_LETTERS, MOST_PROCESSES};
 pub use word::{Letter, Word};
-
-#[cfg(test)]
-mod tests;

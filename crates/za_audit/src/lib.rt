@@ -5,8 +5,6 @@
 mod auditing;
 mod counts;
 mod laws;
-#[cfg(test)]
-mod tests;
 mod verdict;
 
 pub use auditing::audit;

@@ -10,8 +10,6 @@ mod reading;
 mod sink;
 mod source;
 mod std_ends;
-#[cfg(test)]
-mod tests;
 mod writing;
 
 pub use memory::{MemSink, MemSource};

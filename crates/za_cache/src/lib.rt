@@ -4,6 +4,3 @@
 mod rows;
 
 pub use rows::{Kept, Keys, Line, RowKey, Rows};
-
-#[cfg(test)]
-mod tests;

@@ -8,8 +8,6 @@ mod line_tests;
 mod order;
 mod print;
 mod reading;
-#[cfg(test)]
-mod tests;
 
 pub use claim::{Claim, Event, MOST_EVENTS};
 pub use laws::{claims_follow_documents, printed_claims_are_read_back};

@@ -7,6 +7,3 @@ mod laws;
 
 pub use closing::{Open, close};
 pub use laws::{closed_languages, closed_or_broken, least_breaks_are_one};
-
-#[cfg(test)]
-mod tests;

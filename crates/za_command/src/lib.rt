@@ -3,7 +3,5 @@
 
 mod command;
 mod plan;
-#[cfg(test)]
-mod tests;
 
 pub use plan::{MOST_CACHE_ROWS, Plan, WordsFault, read_words};

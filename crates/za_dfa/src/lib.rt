@@ -10,8 +10,6 @@ mod fault;
 mod laws;
 mod partial;
 mod rows;
-#[cfg(test)]
-mod tests;
 
 pub use broken::{Diamond, first_broken};
 pub use closed::Closed;

@@ -5,8 +5,6 @@ mod document;
 mod expression;
 mod laws;
 mod reading;
-#[cfg(test)]
-mod tests;
 
 pub use document::build;
 pub use laws::{documents_are_built_once, documents_are_built_or_refused, texts_have_one_fault};

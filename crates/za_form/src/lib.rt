@@ -8,8 +8,6 @@ mod places;
 mod reading;
 mod search;
 mod steps;
-#[cfg(test)]
-mod tests;
 mod text;
 mod tree;
 

@@ -7,6 +7,7 @@ use Rattle.std.proofs.lemmas.List.{take_at}
 use Rattle.za_text.specs.Lines.{RawLine, lines_of, put_front}
 use Rattle.za_text.specs.Printed.{text_of}
 use Rattle.za_text.specs.Divided.{place_in, lines_before}
+use Rattle.za_text.proofs.DividingLemmas.{get-behind}
 use Rattle.za_print.proofs.PrintedLines.{IsLine, printed_line, lines_of_text}
 
 abbrev all_whole : List RawLine → Bool
@@ -45,10 +46,6 @@ pub lines-of-both : (wss : List (List (List ℕ))) (ys : List ℕ) → AllByRecu
 lines-of-both wss ys h =
     let lines = lines_of_text wss h in
     lines-behind (text_of wss) ys (ap all_whole lines ∙ printed-whole wss) ∙ ap (λ ls. ls ++ lines_of ys) lines
-
-get-behind : (front : List RawLine) (l : RawLine) (ls : List RawLine) → slice_get (front ++ l ∷ ls) (length front) ≡ Some l
-get-behind [] l ls = refl
-get-behind (f ∷ front) l ls = get-behind front l ls
 
 -- where the first line that passes stands
 module _ (test : RawLine → Bool) (l : RawLine) (ls : List RawLine) (here : test l ≡ true) where

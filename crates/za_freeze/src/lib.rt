@@ -7,8 +7,6 @@ mod cutting;
 mod freezing;
 mod laws;
 mod playing;
-#[cfg(test)]
-mod tests;
 mod thawing;
 
 pub use freezing::freeze;

@@ -7,8 +7,6 @@ mod job;
 mod laws;
 mod scripts;
 mod table;
-#[cfg(test)]
-mod tests;
 
 pub use job::{LETTERS_DRAWN, job_of};
 pub use laws::generated_jobs_are_accepted;

@@ -5,8 +5,6 @@
 mod gossip;
 mod laws;
 mod news;
-#[cfg(test)]
-mod tests;
 mod updating;
 
 pub use gossip::Gossip;

@@ -12,8 +12,6 @@ mod opening;
 mod refusal;
 mod serving;
 mod steps;
-#[cfg(test)]
-mod tests;
 mod tries;
 mod turn;
 mod view;

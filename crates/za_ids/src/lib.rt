@@ -4,8 +4,6 @@
 
 mod ids;
 mod labels;
-#[cfg(test)]
-mod tests;
 
 pub use ids::{EventId, id_of, label_of, letter_of};
 pub use labels::{MOST_LABELS, first_unmarked, least_free, least_free_among};

@@ -14,8 +14,6 @@ mod line_tests;
 mod names;
 mod order;
 mod reading;
-#[cfg(test)]
-mod tests;
 mod version;
 mod words;
 

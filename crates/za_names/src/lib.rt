@@ -5,9 +5,6 @@ ghost use Rattle.std.specs.Prelude.{◌≡◌};
 ghost use Rattle.std.specs.List.{list_all};
 ghost use Rattle.za_names.specs.Names.{begins_with_digit, is_name, is_name_byte};
 
-#[cfg(test)]
-mod tests;
-
 /// The most bytes of a name.
 const MOST_NAME_BYTES: usize = 32;
 

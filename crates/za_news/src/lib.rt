@@ -7,8 +7,6 @@ mod order;
 mod read_line;
 mod reading;
 mod readings;
-#[cfg(test)]
-mod tests;
 mod text;
 mod weaving;
 

@@ -5,8 +5,6 @@
 mod circle;
 mod laws;
 mod meeting;
-#[cfg(test)]
-mod tests;
 
 pub use circle::Circle;
 pub use laws::equivalent_words_give_equal_knowledge;

@@ -4,8 +4,6 @@
 mod items;
 mod laws;
 mod print;
-#[cfg(test)]
-mod tests;
 
 pub use laws::printed_jobs_are_read_back;
 pub use print::print_job;

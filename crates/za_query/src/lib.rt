@@ -6,8 +6,6 @@ mod judging;
 mod laws;
 mod query;
 mod replying;
-#[cfg(test)]
-mod tests;
 
 pub use judging::{Judged, judge};
 pub use laws::{refusals_are_exact, replies_are_one, something_is_replied};

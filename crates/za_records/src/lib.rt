@@ -4,6 +4,3 @@
 mod shelf;
 
 pub use shelf::{Counted, Key, Shelf};
-
-#[cfg(test)]
-mod tests;

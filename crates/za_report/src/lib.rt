@@ -7,11 +7,7 @@ mod closed;
 mod hope;
 mod locals;
 mod refused;
-#[cfg(test)]
-mod tests;
 mod verdict;
-#[cfg(test)]
-mod verdict_tests;
 
 pub use answer::answer_text;
 pub use closed::{check_text, open_text};

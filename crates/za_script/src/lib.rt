@@ -15,6 +15,3 @@ pub use laws::{answer_is_of_the_weave, rest_answers_alike, weaving_goes_on, weav
 pub use rest::count_of;
 pub use scripts::Scripts;
 pub use woven::{Woven, weave};
-
-#[cfg(test)]
-mod tests;

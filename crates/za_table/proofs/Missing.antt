@@ -11,6 +11,7 @@ use Rattle.za_alpha.specs.declared.procs.Procs.{Procs}
 use Rattle.za_alpha.specs.Words.{has}
 use Rattle.za_alpha.specs.Procs.{members, no_process}
 use Rattle.za_alpha.specs.Alphabet.{DistributedAlphabet, loc_of}
+use Rattle.za_alpha.proofs.Members.{and-true, and-false}
 use Rattle.za_script.specs.Scripts.{comes_next}
 use Rattle.za_script.proofs.Lists.{all-at}
 use Rattle.za_machine.specs.Machine.{Machine, State, initial, arrive, fire, is_in, fired_by, next, is_complete}
@@ -21,14 +22,6 @@ use Rattle.za_table.specs.declared.arrival.Arrival.TheVariants.{Complete, Short}
 use Rattle.za_table.specs.Answers.{waits_at, AreMissing, IsArrival}
 use Rattle.za_table.proofs.Complete.{none-missing}
 use Rattle.za_table.specs.Private.Steps.{AreLocated, AreAllMissing}
-
-and-true : (b : Bool) → (b && true) ≡ b
-and-true true = refl
-and-true false = refl
-
-and-false : (b : Bool) → (b && false) ≡ false
-and-false true = refl
-and-false false = refl
 
 -- who doesn't wait is missing
 all-missing : (m : Machine) (c : State) (a : ℕ) (s : Procs) → members s ≡ m.loc a → ((p : ℕ) → has (m.loc a) p ≡ true → is_in c.arrived p ≡ false) →

@@ -12,8 +12,6 @@ mod lists;
 mod progress;
 mod running;
 mod table;
-#[cfg(test)]
-mod tests;
 
 pub use arrival::Arrival;
 pub use ended::Ended;

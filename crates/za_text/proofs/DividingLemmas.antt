@@ -51,7 +51,7 @@ first-bytes bytes front back len split size =
     let long = ap length whole ∙ length-append (bytes_of_lines front) (bytes_of_lines back) in
     (ap (take len) whole ∙ take_at (bytes_of_lines front) (bytes_of_lines back) len (sym size), omega arith)
 
-get-behind : (front : List RawLine) (l : RawLine) (ls : List RawLine) → slice_get (front ++ l ∷ ls) (length front) ≡ Some l
+pub get-behind : (front : List RawLine) (l : RawLine) (ls : List RawLine) → slice_get (front ++ l ∷ ls) (length front) ≡ Some l
 get-behind [] l ls = refl
 get-behind (f ∷ front) l ls = get-behind front l ls
 

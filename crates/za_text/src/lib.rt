@@ -3,14 +3,10 @@
 #![tactic(auto)]
 
 mod dividing;
-#[cfg(test)]
-mod dividing_tests;
 mod kind;
 mod line;
 mod names;
 mod numeral;
-#[cfg(test)]
-mod tests;
 mod word;
 
 pub use dividing::{Divided, FirstWord, LineTest, divide};

@@ -4,8 +4,6 @@
 
 mod events;
 mod pieces;
-#[cfg(test)]
-mod tests;
 mod words;
 
 pub use events::{push_entries, push_entry, push_event};

@@ -13,7 +13,7 @@ use Rattle.za_min.specs.Minimal.{HaveSameLanguage, IsMinimalOf}
 use Rattle.za_lang.specs.Jobs.{JobData, IsJob}
 use Rattle.za_report.specs.Texts.{answer_text}
 use Rattle.za_script.specs.declared.answer.Answer.{Answer}
-use Rattle.za_script.specs.declared.answer.Answer.TheVariants.{Accept, Reject, Stuck}
+use Rattle.za_script.specs.declared.answer.Answer.TheVariants.{Stuck}
 use Rattle.za_script.specs.Scripts.{FitsMaximally, Weaves}
 use Rattle.za_script.specs.ScriptLists.{script_of, FitAlphabet}
 use Rattle.za_script.specs.Woven.{WovenWord, weave_of}
@@ -23,6 +23,7 @@ use Rattle.za_script.proofs.Confluence.{weave_is_maximal}
 use Rattle.za_hope.specs.Hopes.{IsHopeOf, IsHopeFor, GoesWith}
 use Rattle.za_hope.proofs.Hoping.{goes-map, hope_is_of_the_state, hope_is_of_the_language}
 use Rattle.za_hope.specs.Jobs.{HasHope}
+use Rattle.za_freeze.proofs.RestOfJobs.{answer-moves}
 use Rattle.za_machine.specs.Machine.{IsMachine}
 use Rattle.za_machine.proofs.States.{reached_maximal, reached_weave}
 use Rattle.za_table.specs.Tables.{Given, machine_of}
@@ -41,15 +42,7 @@ pub ok_and : {T E : Type 0} (r : Result T E) (P Q : T → Type 0) → IfOk r P �
 ok_and (Ok x) P Q p q = (p, q)
 ok_and (Err e) P Q p q = p
 
--- the answer depends on the language alone
-answer-moves : (loc : ℕ → List ℕ) (d e : Automaton) (scripts : ℕ → List ℕ) (a : Answer) → d.letters ≡ e.letters → HaveSameLanguage d e →
-    IsAnswer loc d scripts a → IsAnswer loc e scripts a
-answer-moves loc d e scripts Accept l s h = (h.0, subst (λ m. Weaves loc m scripts h.0) l h.1, sym (s h.0 h.1.word) ∙ h.2)
-answer-moves loc d e scripts Reject l s h =
-    ((h.0.0, subst (λ m. Weaves loc m scripts h.0.0) l h.0.1), λ w v. let u = subst (λ m. Weaves loc m scripts w) (sym l) v in sym (s w u.word) ∙ h.1 w u)
-answer-moves loc d e scripts Stuck l s h = λ w v. h w (subst (λ m. Weaves loc m scripts w) (sym l) v)
-
--- so the answer of a minimal automaton is that of the automaton as given
+-- the answer of a minimal automaton is that of the automaton as given
 run-answers : (d g : CompleteDfa) (scripts : ℕ → List ℕ) (a : Answer) → d.alphabet ≡ g.alphabet → HaveSameLanguage (automaton_of d) (automaton_of g) →
     IsAnswer (loc_of d.alphabet) (automaton_of d) scripts a → IsAnswer (loc_of g.alphabet) (automaton_of g) scripts a
 run-answers d g scripts a e same h =

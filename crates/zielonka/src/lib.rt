@@ -19,12 +19,3 @@ pub use status::{Outcome, Shown, Status};
 pub use za_command::{Plan, WordsFault, read_words};
 pub use za_query::Query;
 pub use za_runner::{Gate, OpenGate};
-
-#[cfg(test)]
-mod asked_tests;
-#[cfg(test)]
-mod journal_tests;
-#[cfg(test)]
-mod tests;
-#[cfg(test)]
-mod thaw_tests;

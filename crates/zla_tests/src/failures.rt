@@ -1,7 +1,7 @@
 //! Reads and writes that fail at each call in turn, every beginning of a job, and lists that are too long.
 
-use crate::jobs::{TWO, TWO_SCRIPTS};
 use crate::top::{ACCEPTED, AUDIT, SOLO, Streams, WHOLE, assert_bytes, assert_run, joined, taking};
+use samples::documents::{TWO, TWO_SCRIPTS};
 use std::alloc::{AllocError, Global};
 use std::process::Abort;
 use std::test::Fail;
@@ -19,18 +19,21 @@ fn assert_solo(
 }
 
 /// How many bytes a call of the source gives, and how many calls read the job to its end.
-const READS: [(usize, u64); 3] = [(1, 172), (7, 26), (64, 4)];
+static READS: [(usize, u64); 3] = [(1, 172), (7, 26), (64, 4)];
+
+/// Each of so many reads fails in turn. The read that finds the end is the last.
+fn assert_reads(rt: &impl Abort, alloc: Global, piece: usize, calls: u64) -> Result<(), Fail> {
+    for call in 0..calls {
+        assert_solo(rt, alloc, taking(piece, 64, call + 1, 0), 6, b"")?;
+    }
+    let streams = taking(piece, 64, calls.saturating_add(1), 0);
+    assert_solo(rt, alloc, streams, 0, ACCEPTED.as_bytes())
+}
 
 #[test]
 fn each_read_fails_in_turn(rt: HostRuntime) -> Result<(), Fail> {
-    let alloc = rt.alloc();
-    for (piece, calls) in READS {
-        for call in 0..calls {
-            assert_solo(&rt, alloc, taking(piece, 64, call + 1, 0), 6, b"")?;
-        }
-        // the read that finds the end is the last
-        let streams = taking(piece, 64, calls.saturating_add(1), 0);
-        assert_solo(&rt, alloc, streams, 0, ACCEPTED.as_bytes())?;
+    for (piece, calls) in &READS {
+        assert_reads(&rt, rt.alloc(), *piece, *calls)?;
     }
     Ok(())
 }
@@ -43,20 +46,30 @@ fn assert_cut(rt: &impl Abort, alloc: Global, piece: usize, at: usize) -> Result
     assert_solo(rt, alloc, streams, 7, &answer[..at])
 }
 
+/// How many bytes a call of the sink takes, and how many calls take the answer.
+static WRITES: [(usize, u64); 3] = [(1, 41), (5, 9), (64, 1)];
+
 #[test]
 fn each_write_fails_in_turn(rt: HostRuntime) -> Result<(), Fail> {
-    let alloc = rt.alloc();
-    for at in 0..41 {
-        assert_cut(&rt, alloc, 1, at)?;
+    for (piece, calls) in &WRITES {
+        for call in 0..*calls {
+            assert_cut(
+                &rt,
+                rt.alloc(),
+                *piece,
+                (call as usize).saturating_mul(*piece),
+            )?;
+        }
     }
-    for at in [0, 5, 10, 15, 20, 25, 30, 35, 40] {
-        assert_cut(&rt, alloc, 5, at)?;
-    }
-    assert_cut(&rt, alloc, 64, 0)?;
-    // calls that aren't made: the whole answer is taken before
-    for (piece, call) in [(1, 42), (5, 10), (64, 2)] {
-        let streams = taking(64, piece, 0, call);
-        assert_solo(&rt, alloc, streams, 0, ACCEPTED.as_bytes())?;
+    Ok(())
+}
+
+/// The call that fails isn't made: the whole answer is taken before.
+#[test]
+fn no_write_is_made_after_the_last(rt: HostRuntime) -> Result<(), Fail> {
+    for (piece, calls) in &WRITES {
+        let streams = taking(64, *piece, 0, calls.saturating_add(1));
+        assert_solo(&rt, rt.alloc(), streams, 0, ACCEPTED.as_bytes())?;
     }
     Ok(())
 }
@@ -71,33 +84,20 @@ fn refusal(alloc: Global, text: &[u8]) -> Result<String, AllocError> {
     format!(in alloc; "refused line {}: {kind}\n", ended.saturating_add(1))
 }
 
-#[test]
-fn each_beginning_is_refused(rt: HostRuntime) -> Result<(), Fail> {
-    let alloc = rt.alloc();
-    let whole = joined(alloc, TWO, TWO_SCRIPTS)?;
-    let whole = whole.as_slice();
-    for k in 0..whole.len() {
-        let text = Vec::from_slice(alloc, &whole[..k])?;
-        let said = refusal(alloc, &whole[..k])?;
-        assert_run(&rt, alloc, SOLO, WHOLE, text, 4, said.as_str())?;
-    }
-    Ok(())
+fn assert_beginning(rt: &impl Abort, alloc: Global, text: &[u8]) -> Result<(), Fail> {
+    let said = refusal(alloc, text)?;
+    let text = Vec::from_slice(alloc, text)?;
+    assert_run(rt, alloc, SOLO, WHOLE, text, 4, said.as_str())
 }
 
-/// The job of two up to its scripts, a line, so many copies of a part, and the rest.
-fn repeated(
-    alloc: Global,
-    line: &str,
-    part: &str,
-    count: usize,
-    rest: &str,
-) -> Result<Vec<u8>, AllocError> {
-    let mut text = joined(alloc, TWO, line)?;
-    for _ in 0..count {
-        text.extend_from_slice(part.as_bytes())?;
+#[test]
+fn each_beginning_is_refused(rt: HostRuntime) -> Result<(), Fail> {
+    let whole = joined(rt.alloc(), TWO, TWO_SCRIPTS)?;
+    let whole = whole.as_slice();
+    for k in 0..whole.len() {
+        assert_beginning(&rt, rt.alloc(), &whole[..k])?;
     }
-    text.extend_from_slice(rest.as_bytes())?;
-    Ok(text)
+    Ok(())
 }
 
 /// The command words, the parts of a text, and what is written.
@@ -110,7 +110,18 @@ type List = (
     &'static str,
 );
 
-const LISTS: [List; 4] = [
+/// The job of two up to its scripts, a line, so many copies of a part, and the rest.
+fn repeated(alloc: Global, list: &List) -> Result<Vec<u8>, AllocError> {
+    let (_, line, part, count, rest, _) = *list;
+    let mut text = joined(alloc, TWO, line)?;
+    for _ in 0..count {
+        text.extend_from_slice(part.as_bytes())?;
+    }
+    text.extend_from_slice(rest.as_bytes())?;
+    Ok(text)
+}
+
+static LISTS: [List; 4] = [
     (
         SOLO,
         "script 0",
@@ -147,10 +158,9 @@ const LISTS: [List; 4] = [
 
 #[test]
 fn lists_that_are_too_long(rt: HostRuntime) -> Result<(), Fail> {
-    let alloc = rt.alloc();
-    for (words, line, part, count, rest, written) in LISTS {
-        let text = repeated(alloc, line, part, count, rest)?;
-        assert_run(&rt, alloc, words, WHOLE, text, 4, written)?;
+    for list in &LISTS {
+        let text = repeated(rt.alloc(), list)?;
+        assert_run(&rt, rt.alloc(), list.0, WHOLE, text, 4, list.5)?;
     }
     Ok(())
 }

@@ -1,7 +1,7 @@
 //! Every order of firing of small jobs, found by trying each enabled letter, against the weave.
 
-use crate::jobs::{LOCK, LOCK_SCRIPTS, STUCK_SCRIPTS, TWO, TWO_SCRIPTS};
 use crate::top::joined;
+use samples::documents::{LOCK, LOCK_SCRIPTS, STUCK_SCRIPTS, TWO, TWO_SCRIPTS};
 use std::alloc::Global;
 use std::process::Abort;
 use std::test::Fail;
@@ -10,6 +10,18 @@ use za_closure::close;
 use za_dfa::{Closed, Dfa};
 use za_lang::{Job, Lang, read_job};
 use za_script::{Scripts, weave};
+
+/// How many letters of the word belong to the process.
+fn fired_by(rt: &impl Abort, alphabet: &Alphabet, word: &Word, p: usize) -> usize {
+    let mut fired = 0usize;
+    for b in word.letters() {
+        assert!(rt; (b.0 as usize) < alphabet.letters());
+        if alphabet.loc(*b).has(p) {
+            fired = fired.saturating_add(1);
+        }
+    }
+    fired
+}
 
 /// Whether the letter is the next one of each of its processes after the word.
 fn is_enabled(
@@ -21,20 +33,31 @@ fn is_enabled(
 ) -> bool {
     assert!(rt; (a.0 as usize) < alphabet.letters());
     for p in 0..scripts.processes() {
-        if alphabet.loc(a).has(p) {
-            let mut fired = 0usize;
-            for b in word.letters() {
-                assert!(rt; (b.0 as usize) < alphabet.letters());
-                if alphabet.loc(*b).has(p) {
-                    fired = fired.saturating_add(1);
-                }
-            }
-            if scripts.script(p).letters().get(fired) != Some(&a) {
-                return false;
-            }
+        let fired = fired_by(rt, alphabet, word, p);
+        if alphabet.loc(a).has(p) && scripts.script(p).letters().get(fired) != Some(&a) {
+            return false;
         }
     }
     true
+}
+
+/// Appends the words that one more enabled letter makes of this one.
+fn fire_one(
+    rt: &impl Abort,
+    alphabet: &Alphabet,
+    scripts: &Scripts,
+    word: &Word,
+    longer: &mut Vec<Word>,
+) -> Result<(), OutOfMemory> {
+    for a in 0..alphabet.letters() {
+        let a = Letter(a as u8);
+        if is_enabled(rt, alphabet, scripts, word, a) {
+            let mut next = word.copy()?;
+            next.push(a)?;
+            longer.push(next)?;
+        }
+    }
+    Ok(())
 }
 
 /// The words that one more enabled letter makes of these, and those that none can be appended to.
@@ -49,14 +72,7 @@ fn fire_each(
     let mut longer = Vec::new(alloc);
     for word in words {
         let before = longer.len();
-        for a in 0..alphabet.letters() {
-            let a = Letter(a as u8);
-            if is_enabled(rt, alphabet, scripts, &word, a) {
-                let mut next = word.copy()?;
-                next.push(a)?;
-                longer.push(next)?;
-            }
-        }
+        fire_one(rt, alphabet, scripts, &word, &mut longer)?;
         if longer.len() == before {
             maximal.push(word)?;
         }

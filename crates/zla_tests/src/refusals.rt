@@ -1,7 +1,8 @@
 //! What the program says of documents: each kind of refusal, lines that change nothing, the limits.
 
-use crate::jobs::{OPEN, TWO, TWO_SCRIPTS};
+use crate::limits::{Limits, at_the_limits};
 use crate::top::{SOLO, WHOLE, assert_run, joined};
+use samples::documents::{OPEN, TWO, TWO_SCRIPTS};
 use std::alloc::{AllocError, Global};
 use std::process::Abort;
 use std::test::Fail;
@@ -183,42 +184,18 @@ fn the_first_wrong_line_comes_before_the_language(rt: HostRuntime) -> Result<(),
     assert_run(&rt, rt.alloc(), SOLO, WHOLE, open, 4, said)
 }
 
-fn push_letters(alloc: Global, text: &mut String) -> Result<(), AllocError> {
-    for a in 0..32u32 {
-        text.push_str(format!(in alloc; "letter l{a} {}\n", a % 6)?.as_str())?;
-    }
-    Ok(())
-}
-
-fn push_rows(alloc: Global, text: &mut String) -> Result<(), AllocError> {
-    for cell in 0..1024u32 {
-        let (q, a) = (cell / 32, cell % 32);
-        text.push_str(format!(in alloc; "row {q} l{a} {}\n", (q % 32 + 1) % 32)?.as_str())?;
-    }
-    Ok(())
-}
-
-fn push_scripts(alloc: Global, text: &mut String) -> Result<(), AllocError> {
-    for p in 0..6u32 {
-        text.push_str(format!(in alloc; "script {p} l{p}\n")?.as_str())?;
-    }
-    Ok(())
-}
-
 /// Six processes, 32 letters of one process each in turn, and 32 states in a ring. State 6 accepts.
-fn at_the_limits(alloc: Global) -> Result<Vec<u8>, AllocError> {
-    let mut text = String::from_str(alloc, "zla 1\nprocesses 6\n")?;
-    push_letters(alloc, &mut text)?;
-    text.push_str("states 32\nstart 0\naccept 6\n")?;
-    push_rows(alloc, &mut text)?;
-    push_scripts(alloc, &mut text)?;
-    text.push_str("end\n")?;
-    Vec::from_slice(alloc, text.as_bytes())
-}
+static LIMITS: Limits = Limits {
+    head: "zla 1\nprocesses 6\n",
+    name: "",
+    processes: 6,
+    letters: 32,
+    states: 32,
+};
 
 #[test]
 fn a_document_at_the_limits(rt: HostRuntime) -> Result<(), Fail> {
-    let text = "accept\nfired 6\nbound labels 6944 records 7\n";
-    let alloc = rt.alloc();
-    assert_run(&rt, alloc, SOLO, WHOLE, at_the_limits(alloc)?, 0, text)
+    let text = at_the_limits(rt.alloc(), &LIMITS)?;
+    let said = "accept\nfired 6\nbound labels 6944 records 7\n";
+    assert_run(&rt, rt.alloc(), SOLO, WHOLE, text, 0, said)
 }

@@ -1,6 +1,6 @@
 //! Whole runs of the top call: words and a text in memory, a status and what is written.
 
-use crate::jobs::{
+use samples::documents::{
     LAST, LOCK, LOCK_SCRIPTS, MERGED, OPEN, OPEN_AFTER_C, RING, STUCK_SCRIPTS, TWO, TWO_SCRIPTS,
     WITHOUT_B,
 };
@@ -50,6 +50,23 @@ pub(crate) fn joined(alloc: Global, head: &str, tail: &str) -> Result<Vec<u8>, A
     Ok(text)
 }
 
+fn source_of(
+    rt: &impl Abort,
+    alloc: Global,
+    streams: Streams,
+    text: Vec<u8>,
+) -> Result<MemSource, AllocError> {
+    assert!(rt; 0 < streams.reads);
+    let failing = vec![in alloc; streams.failing_read]?;
+    Ok(MemSource::new(text, streams.reads, failing))
+}
+
+fn sink_of(rt: &impl Abort, alloc: Global, streams: Streams) -> Result<MemSink, Fail> {
+    assert!(rt; 0 < streams.writes);
+    let failing = vec![in alloc; streams.failing_write]?;
+    Ok(MemSink::new(alloc, 400, streams.writes, failing)?)
+}
+
 /// Runs the program over a text, and compares its status and what it wrote.
 pub(crate) fn assert_run(
     rt: &impl Abort,
@@ -73,10 +90,8 @@ pub(crate) fn assert_bytes(
     status: u8,
     written: &[u8],
 ) -> Result<(), Fail> {
-    assert!(rt; 0 < streams.reads && 0 < streams.writes);
-    let mut source = MemSource::new(text, streams.reads, vec![in alloc; streams.failing_read]?);
-    let failing = vec![in alloc; streams.failing_write]?;
-    let mut sink = MemSink::new(alloc, 400, streams.writes, failing)?;
+    let mut source = source_of(rt, alloc, streams, text)?;
+    let mut sink = sink_of(rt, alloc, streams)?;
     let words = strings(alloc, words)?;
     let outcome = plain(alloc, words.as_slice(), &mut source, &mut sink);
     assert_eq!(rt; sink.bytes(), written);
@@ -105,7 +120,7 @@ const NONE_FIRED: &str = "accept\nfired 0\nbound labels 27 records 3\n";
 
 const BROKEN: &str = "not closed\nleft a b\nright b a\n";
 
-const ANSWERS: [Case; 23] = [
+static ANSWERS: [Case; 23] = [
     // both processes use up their scripts
     (SOLO, TWO, TWO_SCRIPTS, 0, ACCEPTED),
     (
@@ -256,7 +271,7 @@ const USAGE: &str =
     "usage: zla solo|run|check|locals|journal [--cache C], zla audit|build|news|thaw, zla gen N, zla freeze K\n";
 
 /// Words for which nothing is read.
-const UNREAD: [Case; 9] = [
+static UNREAD: [Case; 9] = [
     (&[], "", "", 2, USAGE),
     (&["solo", "extra"], "", "", 2, USAGE),
     (&["--help"], "", "", 2, USAGE),
@@ -270,7 +285,7 @@ const UNREAD: [Case; 9] = [
 ];
 
 /// Streams that take so many bytes a call, and of which these calls fail.
-pub(crate) const fn taking(
+pub(crate) fn taking(
     reads: usize,
     writes: usize,
     failing_read: u64,
@@ -285,48 +300,48 @@ pub(crate) const fn taking(
 }
 
 #[test]
-fn words_and_streams_that_fail(rt: HostRuntime) -> Result<(), Fail> {
-    let alloc = rt.alloc();
+fn words_for_which_nothing_is_read(rt: HostRuntime) -> Result<(), Fail> {
     for case in &UNREAD {
-        assert_case(&rt, alloc, taking(64, 64, 1, 0), case)?;
-    }
-    for (streams, case) in [
-        // the second read
-        (taking(64, 64, 2, 0), (SOLO, TWO, TWO_SCRIPTS, 6, "")),
-        // the first write, of which nothing is taken: it isn't tried again
-        (taking(64, 64, 0, 1), (SOLO, TWO, TWO_SCRIPTS, 7, "")),
-        (taking(64, 64, 2, 0), (AUDIT, TWO, TWO_SCRIPTS, 6, "")),
-        // the second write, of an answer and of refusals
-        (taking(64, 5, 0, 2), (SOLO, TWO, TWO_SCRIPTS, 7, "accep")),
-        (taking(1, 7, 0, 2), (CHECK, OPEN, "end", 7, "refused")),
-        (
-            taking(1, 7, 0, 2),
-            (AUDIT, OPEN, "end\nend\n", 7, "refused"),
-        ),
-    ] {
-        assert_case(&rt, alloc, streams, &case)?;
+        assert_case(&rt, rt.alloc(), taking(64, 64, 1, 0), case)?;
     }
     Ok(())
 }
 
+/// What `taking` takes, and a case.
+static FAILING: [((usize, usize, u64, u64), Case); 6] = [
+    // the second read
+    ((64, 64, 2, 0), (SOLO, TWO, TWO_SCRIPTS, 6, "")),
+    // the first write, of which nothing is taken: it isn't tried again
+    ((64, 64, 0, 1), (SOLO, TWO, TWO_SCRIPTS, 7, "")),
+    ((64, 64, 2, 0), (AUDIT, TWO, TWO_SCRIPTS, 6, "")),
+    // the second write, of an answer and of refusals
+    ((64, 5, 0, 2), (SOLO, TWO, TWO_SCRIPTS, 7, "accep")),
+    ((1, 7, 0, 2), (CHECK, OPEN, "end", 7, "refused")),
+    ((1, 7, 0, 2), (AUDIT, OPEN, "end\nend\n", 7, "refused")),
+];
+
+#[test]
+fn streams_that_fail(rt: HostRuntime) -> Result<(), Fail> {
+    for ((reads, writes, failing_read, failing_write), case) in &FAILING {
+        let streams = taking(*reads, *writes, *failing_read, *failing_write);
+        assert_case(&rt, rt.alloc(), streams, case)?;
+    }
+    Ok(())
+}
+
+/// How many line feeds a text has, the status, and what is written.
+static LENGTHS: [(usize, u8, &str); 3] = [
+    (MOST_BYTES + 1, 9, "refused: more than 1048576 bytes\n"),
+    (MOST_BYTES, 4, "refused line 1048577: end is missing\n"),
+    (0, 4, "refused line 1: end is missing\n"),
+];
+
 #[test]
 fn one_byte_too_many(rt: HostRuntime) -> Result<(), Fail> {
-    let alloc = rt.alloc();
-    for (len, status, text) in [
-        (MOST_BYTES + 1, 9, "refused: more than 1048576 bytes\n"),
-        (MOST_BYTES, 4, "refused line 1048577: end is missing\n"),
-        (0, 4, "refused line 1: end is missing\n"),
-    ] {
-        let bytes = vec![in alloc; 10u8; len]?;
-        assert_run(
-            &rt,
-            alloc,
-            SOLO,
-            taking(65536, 64, 0, 0),
-            bytes,
-            status,
-            text,
-        )?;
+    for (len, status, text) in &LENGTHS {
+        let bytes = vec![in rt.alloc(); 10u8; *len]?;
+        let streams = taking(65536, 64, 0, 0);
+        assert_run(&rt, rt.alloc(), SOLO, streams, bytes, *status, text)?;
     }
     Ok(())
 }

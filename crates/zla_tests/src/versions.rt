@@ -1,7 +1,7 @@
 //! What the program says of documents of version 2: names, comments, repeats and the wide limits.
 
+use crate::limits::{Limits, at_the_limits};
 use crate::top::{SOLO, WHOLE, assert_run, joined};
-use std::alloc::{AllocError, Global};
 use std::test::Fail;
 
 /// Two processes with names, and a comment. Its script lines begin at line 16.
@@ -15,7 +15,7 @@ const OTHER_HEADER: &str = "zla 1\n# two sides\nprocesses left right\n";
 /// A head of a document, the lines after it, the status, and what is written.
 type Case = (&'static str, &'static str, u8, &'static str);
 
-const CASES: [Case; 6] = [
+static CASES: [Case; 6] = [
     (
         NAMED,
         "script left a*2 c\nscript right b c\nend\n",
@@ -57,50 +57,25 @@ const CASES: [Case; 6] = [
 
 #[test]
 fn documents_of_version_2(rt: HostRuntime) -> Result<(), Fail> {
-    for (head, tail, status, said) in CASES {
+    for (head, tail, status, said) in &CASES {
         let text = joined(rt.alloc(), head, tail)?;
-        assert_run(&rt, rt.alloc(), SOLO, WHOLE, text, status, said)?;
-    }
-    Ok(())
-}
-
-fn push_letters(alloc: Global, text: &mut String) -> Result<(), AllocError> {
-    for a in 0..128u32 {
-        text.push_str(format!(in alloc; "letter l{a} q{}\n", a % 10)?.as_str())?;
-    }
-    Ok(())
-}
-
-fn push_rows(alloc: Global, text: &mut String) -> Result<(), AllocError> {
-    for cell in 0..16384u32 {
-        let (q, a) = (cell / 128, cell % 128);
-        text.push_str(format!(in alloc; "row {q} l{a} {}\n", (q % 128 + 1) % 128)?.as_str())?;
-    }
-    Ok(())
-}
-
-fn push_scripts(alloc: Global, text: &mut String) -> Result<(), AllocError> {
-    for p in 0..10u32 {
-        text.push_str(format!(in alloc; "script q{p} l{p}\n")?.as_str())?;
+        assert_run(&rt, rt.alloc(), SOLO, WHOLE, text, *status, said)?;
     }
     Ok(())
 }
 
 /// 10 processes, 128 letters and 128 states, with all rows.
-fn widest(alloc: Global) -> Result<String, AllocError> {
-    let mut text = String::from_str(alloc, "zla 2\nprocesses q0 q1 q2 q3 q4 q5 q6 q7 q8 q9\n")?;
-    push_letters(alloc, &mut text)?;
-    text.push_str("states 128\nstart 0\naccept 10\n")?;
-    push_rows(alloc, &mut text)?;
-    push_scripts(alloc, &mut text)?;
-    text.push_str("end\n")?;
-    Ok(text)
-}
+static LIMITS: Limits = Limits {
+    head: "zla 2\nprocesses q0 q1 q2 q3 q4 q5 q6 q7 q8 q9\n",
+    name: "q",
+    processes: 10,
+    letters: 128,
+    states: 128,
+};
 
 #[test]
 fn a_document_of_version_2_at_its_limits(rt: HostRuntime) -> Result<(), Fail> {
-    let text = widest(rt.alloc())?;
+    let text = at_the_limits(rt.alloc(), &LIMITS)?;
     let said = "accept\nfired 10\nbound labels 128128 records 11\n";
-    let text = joined(rt.alloc(), text.as_str(), "")?;
     assert_run(&rt, rt.alloc(), SOLO, WHOLE, text, 0, said)
 }

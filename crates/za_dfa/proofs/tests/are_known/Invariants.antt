@@ -1,6 +1,0 @@
-use Rattle.std.proofs.Common.{◌<◌, All, take}
-use Rattle.za_dfa.proofs.tests.are_known.Given as goal
-
--- the rows so far
-abbrev pub invariant-loop-row : goal.invariant-loop-row
-invariant-loop-row l = All (λ row. row.letter.0 < l.letters) (take l.row-index l.rows)

@@ -1,6 +1,0 @@
-use Rattle.std.proofs.Common.{All}
-use Rattle.za_hall.specs.Halls.{IsOf}
-use Rattle.za_hall.proofs.tests.try_all.Given as goal
-
-abbrev pub invariant-loop-p : goal.invariant-loop-p
-invariant-loop-p g l = All (λ d. IsOf d l.hall) l.desks.items

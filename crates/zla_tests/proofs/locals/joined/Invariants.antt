@@ -1,6 +1,0 @@
-use Rattle.std.proofs.Common.{◌≡◌, take}
-use Rattle.zla_tests.proofs.locals.joined.Given as goal
-
--- the first are on the bench
-abbrev pub invariant-loop-local : goal.invariant-loop-local
-invariant-loop-local l = (l.bench.processes ≡ l.closed.alphabet.processes) × (l.bench.states ≡ l.closed.states) × (l.bench.locals ≡ take l.local-index l.locals)
