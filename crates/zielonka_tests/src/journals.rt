@@ -1,6 +1,6 @@
 //! Journals, and what `audit` says of them and of other claims.
 
-use crate::top::{APART, Ran, Run, TWO, assert_said, is_set_in_time, joined, run_top, shown};
+use crate::top::{APART, Ran, Said, TWO, assert_said, is_set_in_time, joined, run_top};
 use std::alloc::Global;
 use std::process::Abort;
 use std::sync::Wait;
@@ -98,7 +98,7 @@ fn audited<R: Abort + Threads + Wait + Sync>(
     alloc: Global,
     document: &[u8],
     claim: &[u8],
-) -> Result<Run, Fail> {
+) -> Result<Said, Fail> {
     let text = joined(alloc, document, claim)?;
     assert!(rt; text.len() < 400_000);
     run_top(rt, alloc, &["audit"], text, 64, &OpenGate)
@@ -112,7 +112,7 @@ fn assert_claim<R: Abort + Threads + Wait + Sync>(
     let (document, claim, status, text) = *case;
     let run = audited(rt, alloc, document.as_bytes(), claim.as_bytes())?;
     assert_said(rt, &run, status, text);
-    assert_eq!(rt; shown(&run.0), Ran::Nothing);
+    assert_eq!(rt; run.ran, Ran::Nothing);
     Ok(())
 }
 
@@ -133,10 +133,10 @@ fn journal_of<R: Abort + Threads + Wait + Sync>(
     fired: usize,
 ) -> Result<MemSink, Fail> {
     let copy = Vec::from_slice(alloc, document)?;
-    let (outcome, sink) = run_top(rt, alloc, texts, copy, 400_000, &OpenGate)?;
-    assert_eq!(rt; outcome.status, Status(0));
-    assert_eq!(rt; shown(&outcome), Ran::OnThreads(fired));
-    Ok(sink)
+    let run = run_top(rt, alloc, texts, copy, 400_000, &OpenGate)?;
+    assert_eq!(rt; run.status, Status(0));
+    assert_eq!(rt; run.ran, Ran::OnThreads(fired));
+    Ok(run.sink)
 }
 
 /// Has this journal audited.

@@ -3,7 +3,6 @@
 use crate::journals::OPEN;
 use crate::top::{
     ACCEPTED, Ran, TWO, TWO_STUCK, USAGE, assert_said, joined, said_by_plain, said_by_threaded,
-    shown,
 };
 use std::alloc::Global;
 use std::process::Abort;
@@ -83,7 +82,7 @@ fn assert_case<R: Abort + Threads + Wait + Sync>(
     let (document, more, room, status, text, ran) = *case;
     let frozen = joined(alloc, document.as_bytes(), more.as_bytes())?;
     let run = said_by_threaded(rt, alloc, &["thaw"], frozen, room)?;
-    assert_eq!(rt; shown(&run.0), ran);
+    assert_eq!(rt; run.ran, ran);
     assert_said(rt, &run, status, text);
     Ok(())
 }

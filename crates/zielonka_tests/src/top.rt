@@ -76,7 +76,7 @@ pub(crate) enum Ran {
     OnThreads(usize),
 }
 
-pub(crate) fn shown(outcome: &Outcome) -> Ran {
+fn shown(outcome: &Outcome) -> Ran {
     match &outcome.shown {
         Shown::Nothing => Ran::Nothing,
         Shown::Solo(ended) => Ran::Alone(ended.word().len()),
@@ -237,8 +237,20 @@ static CASES: [Case; 22] = [
     ),
 ];
 
-/// What a call came to, and what it wrote.
-pub(crate) type Run = (Outcome, MemSink);
+/// How a call ended: its status, what is shown, and what it wrote.
+#[derive(Drop)]
+pub(crate) struct Said {
+    pub(crate) status: Status,
+    pub(crate) ran: Ran,
+    pub(crate) sink: MemSink,
+}
+
+/// The outcome of a call that wrote to this sink. The run that it shows is let go here, and nowhere else.
+fn said(outcome: Outcome, sink: MemSink) -> Said {
+    let (status, ran) = (outcome.status, shown(&outcome));
+    drop(outcome);
+    Said { status, ran, sink }
+}
 
 /// Where a document comes from, and a sink with so much room.
 fn streams(alloc: Global, document: Vec<u8>, room: usize) -> Result<(MemSource, MemSink), Fail> {
@@ -261,11 +273,11 @@ pub(crate) fn run_top<R: Threads + Wait + Sync, G: Gate>(
     document: Vec<u8>,
     room: usize,
     gate: &G,
-) -> Result<Run, Fail> {
+) -> Result<Said, Fail> {
     let words = strings(alloc, texts)?;
     let (mut source, mut sink) = streams(alloc, document, room)?;
     let outcome = top(rt, alloc, words.as_slice(), &mut source, &mut sink, gate);
-    Ok((outcome, sink))
+    Ok(said(outcome, sink))
 }
 
 /// The same by `plain` alone.
@@ -274,11 +286,11 @@ pub(crate) fn said_by_plain(
     texts: &[&str],
     document: &[u8],
     room: usize,
-) -> Result<Run, Fail> {
+) -> Result<Said, Fail> {
     let words = strings(alloc, texts)?;
     let (mut source, mut sink) = streams(alloc, Vec::from_slice(alloc, document)?, room)?;
     let outcome = plain(alloc, words.as_slice(), &mut source, &mut sink);
-    Ok((outcome, sink))
+    Ok(said(outcome, sink))
 }
 
 /// The same by `threaded` alone.
@@ -288,7 +300,7 @@ pub(crate) fn said_by_threaded<R: Threads + Wait + Sync>(
     texts: &[&str],
     document: Vec<u8>,
     room: usize,
-) -> Result<Run, Fail> {
+) -> Result<Said, Fail> {
     let words = strings(alloc, texts)?;
     let (mut source, mut sink) = streams(alloc, document, room)?;
     let outcome = threaded(
@@ -299,12 +311,12 @@ pub(crate) fn said_by_threaded<R: Threads + Wait + Sync>(
         &mut sink,
         &OpenGate,
     );
-    Ok((outcome, sink))
+    Ok(said(outcome, sink))
 }
 
-pub(crate) fn assert_said(rt: &impl Abort, run: &Run, status: u8, text: &str) {
-    assert_eq!(rt; run.0.status, Status(status));
-    assert_eq!(rt; run.1.bytes(), text.as_bytes());
+pub(crate) fn assert_said(rt: &impl Abort, run: &Said, status: u8, text: &str) {
+    assert_eq!(rt; run.status, Status(status));
+    assert_eq!(rt; run.sink.bytes(), text.as_bytes());
 }
 
 fn assert_case<R: Abort + Threads + Wait + Sync>(
@@ -316,7 +328,7 @@ fn assert_case<R: Abort + Threads + Wait + Sync>(
     let document = Vec::from_slice(alloc, document.as_bytes())?;
     let run = run_top(rt, alloc, texts, document, room, &OpenGate)?;
     assert_said(rt, &run, status, text);
-    assert_eq!(rt; shown(&run.0), ran);
+    assert_eq!(rt; run.ran, ran);
     Ok(())
 }
 
@@ -425,6 +437,7 @@ fn the_crates_below_on_one_thread(rt: HostRuntime) -> Result<(), Fail> {
     let (closed, scripts) = two(&rt, rt.alloc())?;
     let ended = za_table::solo(rt.alloc(), closed, scripts, 0)?;
     assert_accepted(&rt, &ended);
+    drop(ended);
     Ok(())
 }
 
@@ -433,24 +446,25 @@ fn the_crates_below_on_threads(rt: HostRuntime) -> Result<(), Fail> {
     let (closed, scripts) = two(&rt, rt.alloc())?;
     let hall = za_runner::run(&rt, rt.alloc(), closed, scripts, 0, &OpenGate)?;
     assert_accepted(&rt, hall.ended());
+    drop(hall);
     Ok(())
 }
 
 /// What `gen 7` writes, though no read would succeed.
-fn generated(alloc: Global) -> Result<Run, Fail> {
+fn generated(alloc: Global) -> Result<Said, Fail> {
     let words = strings(alloc, &["gen", "7"])?;
     let mut source = MemSource::new(Vec::new(alloc), 1, vec![in alloc; 1]?);
     let mut sink = MemSink::new(alloc, 65536, 4096, Vec::new(alloc))?;
     let outcome = plain(alloc, words.as_slice(), &mut source, &mut sink);
-    Ok((outcome, sink))
+    Ok(said(outcome, sink))
 }
 
 #[test]
 fn the_generated_job_is_written(rt: HostRuntime) -> Result<(), Fail> {
-    let (outcome, sink) = generated(rt.alloc())?;
+    let run = generated(rt.alloc())?;
     let job = job_of(rt.alloc(), 7)?;
-    assert_eq!(rt; outcome.status, Status(0));
-    assert!(rt; sink.bytes() == job.as_slice());
+    assert_eq!(rt; run.status, Status(0));
+    assert!(rt; run.sink.bytes() == job.as_slice());
     Ok(())
 }
 
