@@ -1,3 +1,5 @@
+//! Verdicts on claims about runs.
+
 ghost use Rattle.std.specs.Prelude.{IfOk};
 ghost use Rattle.za_lang.specs.Answers.{data_of};
 ghost use Rattle.za_lang.specs.Jobs.{IsJob};
@@ -51,69 +53,81 @@ fn verdict(alloc: Global, lang: &str, scripts: &str, claim: &str) -> Result<Audi
     }
 }
 
-#[test]
-fn verdicts_on_runs(rt: HostRuntime) -> Result<(), Fail> {
-    let wrong = Audit::WrongAnswer {
-        defined: Answer::Accept,
-    };
-    for (lang, scripts, claim, wanted) in [
-        (
-            LANG,
-            WHOLE,
-            "claim accept\nfire b.0\nfire a.0\nfire c.0\nfire a.0\nend\n",
-            Audit::Yes { hope: None },
-        ),
-        (
-            LANG,
-            WHOLE,
-            "claim reject\nfire b.0\nfire a.0\nfire c.0\nfire a.0\nend\n",
-            wrong,
-        ),
-        (
-            LANG,
-            WHOLE,
-            "claim stuck\nfire a.0\nfire b.0\nfire c.0\nfire a.0\nend\n",
-            wrong,
-        ),
-        (
-            LANG,
-            STUCK,
-            "claim stuck\nfire b.0\nend\n",
-            Audit::Yes {
-                hope: Some(Hope::Alive),
-            },
-        ),
-        (
-            WITHOUT_B,
-            STUCK,
-            "claim stuck\nfire b.0\nend\n",
-            Audit::Yes {
-                hope: Some(Hope::Dead),
-            },
-        ),
-    ] {
-        assert_eq!(rt; verdict(rt.alloc(), lang, scripts, claim)?, wanted);
-    }
-    Ok(())
-}
+/// A language, scripts, a claim, and the verdict on it.
+type Case = (&'static str, &'static str, &'static str, Audit);
+
+const WRONG: Audit = Audit::WrongAnswer {
+    defined: Answer::Accept,
+};
+
+const LEFT: Audit = Audit::NotMaximal { letter: Letter(0) };
+
+static CASES: [Case; 10] = [
+    (
+        LANG,
+        WHOLE,
+        "claim accept\nfire b.0\nfire a.0\nfire c.0\nfire a.0\nend\n",
+        Audit::Yes { hope: None },
+    ),
+    (
+        LANG,
+        WHOLE,
+        "claim reject\nfire b.0\nfire a.0\nfire c.0\nfire a.0\nend\n",
+        WRONG,
+    ),
+    (
+        LANG,
+        WHOLE,
+        "claim stuck\nfire a.0\nfire b.0\nfire c.0\nfire a.0\nend\n",
+        WRONG,
+    ),
+    (
+        LANG,
+        STUCK,
+        "claim stuck\nfire b.0\nend\n",
+        Audit::Yes {
+            hope: Some(Hope::Alive),
+        },
+    ),
+    (
+        WITHOUT_B,
+        STUCK,
+        "claim stuck\nfire b.0\nend\n",
+        Audit::Yes {
+            hope: Some(Hope::Dead),
+        },
+    ),
+    (
+        LANG,
+        WHOLE,
+        "claim accept\nfire b.0\nfire a.0\nfire c.0\nfire a.1\nend\n",
+        Audit::BadLabel { at: 3 },
+    ),
+    (
+        LANG,
+        WHOLE,
+        "claim accept\nfire c.0\nend\n",
+        Audit::BadLetter { at: 0 },
+    ),
+    (
+        LANG,
+        WHOLE,
+        "claim accept\nfire a.0\nfire a.1\nend\n",
+        Audit::BadLetter { at: 1 },
+    ),
+    (
+        LANG,
+        WHOLE,
+        "claim accept\nfire a.0\nfire b.0\nfire c.0\nend\n",
+        LEFT,
+    ),
+    (LANG, WHOLE, "claim reject\nend\n", LEFT),
+];
 
 #[test]
-fn verdicts_on_events(rt: HostRuntime) -> Result<(), Fail> {
-    let left = Audit::NotMaximal { letter: Letter(0) };
-    for (claim, wanted) in [
-        (
-            "claim accept\nfire b.0\nfire a.0\nfire c.0\nfire a.1\nend\n",
-            Audit::BadLabel { at: 3 },
-        ),
-        ("claim accept\nfire c.0\nend\n", Audit::BadLetter { at: 0 }),
-        (
-            "claim accept\nfire a.0\nfire a.1\nend\n",
-            Audit::BadLetter { at: 1 },
-        ),
-        ("claim accept\nfire a.0\nfire b.0\nfire c.0\nend\n", left),
-        ("claim reject\nend\n", left),
-    ] {
-        assert_eq!(rt; verdict(rt.alloc(), LANG, WHOLE, claim)?, wanted);
+fn verdicts_on_claims(rt: HostRuntime) -> Result<(), Fail> {
+    for (lang, scripts, claim, wanted) in &CASES {
+        assert_eq!(rt; verdict(rt.alloc(), lang, scripts, claim)?, *wanted);
     }
     Ok(())
 }

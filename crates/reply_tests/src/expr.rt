@@ -1,4 +1,7 @@
+//! Jobs that are built from expressions.
+
 use std::alloc::{AllocError, Global};
+use std::process::Abort;
 use std::test::Fail;
 use za_expr::build;
 use za_lang::{JobFault, read_job};
@@ -75,111 +78,143 @@ fn refused(line: u32, kind: Kind) -> Option<JobFault> {
     Some(JobFault::Text(TextFault { line, kind }))
 }
 
-#[test]
-fn all_words(rt: HostRuntime) -> Result<(), Fail> {
-    let alloc = rt.alloc();
-    let text = built(alloc, ALL_WORDS)?;
-    assert!(rt; text.as_slice() == ALL_WORDS_BUILT);
+/// The printed form of the job of a text.
+fn printed(rt: &impl Abort, alloc: Global, text: &[u8]) -> Result<Vec<u8>, Fail> {
     assert!(rt; text.len() <= MOST_BYTES);
-    let job = read_job(alloc, text.as_slice())?;
+    let job = read_job(alloc, text)?;
     assert!(rt; job.scripts.fits(job.lang.alphabet()));
-    assert!(rt; print_job(alloc, &job)?.as_slice() == ALL_WORDS_BUILT);
-    Ok(())
+    let text = print_job(alloc, &job);
+    drop(job);
+    Ok(text?)
 }
 
 #[test]
+fn all_words(rt: HostRuntime) -> Result<(), Fail> {
+    let text = built(rt.alloc(), ALL_WORDS)?;
+    assert!(rt; text.as_slice() == ALL_WORDS_BUILT);
+    assert!(rt; printed(&rt, rt.alloc(), text.as_slice())?.as_slice() == ALL_WORDS_BUILT);
+    Ok(())
+}
+
+/// What the comments and repeats of version 2 may be.
+const COMMENTED: &[u8] =
+    b"\n zla\texpr\n# two sides\nprocesses left right\nletter a left\nletter b right\n\
+    letter c left right\n#\nexpr ! { a b & 1 } & ( a | b | c ) *\nscript left a*2\n#x\nscript left a c\n\
+    end\n# the end\n";
+
+#[test]
 fn comments_and_repeats_are_those_of_version_2(rt: HostRuntime) -> Result<(), Fail> {
-    let alloc = rt.alloc();
-    let document =
-        b"\n zla\texpr\n# two sides\nprocesses left right\nletter a left\nletter b right\n\
-        letter c left right\n#\nexpr ! { a b & 1 } & ( a | b | c ) *\nscript left a*2\n#x\nscript left a c\n\
-        end\n# the end\n";
-    let text = built(alloc, document.as_slice())?;
+    let text = built(rt.alloc(), COMMENTED)?;
     assert!(rt; contains(text.as_slice(), b"script left a*3 c\nscript right\nend\n"));
     Ok(())
 }
 
 #[test]
 fn bad_form(rt: HostRuntime) -> Result<(), Fail> {
-    let alloc = rt.alloc();
-    let document = with_line(alloc, 5, b"expr a |\n")?;
-    assert!(rt; fault_of(alloc, document.as_slice()) == refused(5, Kind::BadExpr));
+    let document = with_line(rt.alloc(), 5, b"expr a |\n")?;
+    assert!(rt; fault_of(rt.alloc(), document.as_slice()) == refused(5, Kind::BadExpr));
+    Ok(())
+}
+
+/// An expression, how many times what follows, and why the document is refused.
+type Refused = (&'static [u8], &'static [u8], usize, Kind);
+
+static REFUSED: [Refused; 3] = [
+    (b"( a | b ) * a", b" ( a | b )", 6, Kind::ExprStates),
+    (b"a", b" a", 64, Kind::ExprFull),
+    (b"d", b" |", 64, Kind::ExprFull),
+];
+
+fn assert_refused(rt: &impl Abort, alloc: Global, case: &Refused) -> Result<(), Fail> {
+    let (text, more, times, kind) = *case;
+    let document = with_expression(alloc, text, more, times)?;
+    assert!(rt; fault_of(alloc, document.as_slice()) == refused(5, kind));
     Ok(())
 }
 
 #[test]
 fn wide_form(rt: HostRuntime) -> Result<(), Fail> {
-    let alloc = rt.alloc();
-    let six = with_expression(alloc, b"( a | b ) * a", b" ( a | b )", 6)?;
-    assert!(rt; fault_of(alloc, six.as_slice()) == refused(5, Kind::ExprStates));
-    let five = with_expression(alloc, b"( a | b ) * a", b" ( a | b )", 5)?;
-    assert!(rt; contains(built(alloc, five.as_slice())?.as_slice(), b"\nstates 65\n"));
+    for case in &REFUSED {
+        assert_refused(&rt, rt.alloc(), case)?;
+    }
+    Ok(())
+}
+
+/// An expression, how many times what follows, and a part of what is built.
+type Built = (&'static [u8], &'static [u8], usize, &'static [u8]);
+
+static BUILT: [Built; 2] = [
+    (b"( a | b ) * a", b" ( a | b )", 5, b"\nstates 65\n"),
+    (b"a", b" a", 63, b"\nstates 66\n"),
+];
+
+fn assert_built(rt: &impl Abort, alloc: Global, case: &Built) -> Result<(), Fail> {
+    let (text, more, times, part) = *case;
+    let document = with_expression(alloc, text, more, times)?;
+    let job = built(alloc, document.as_slice())?;
+    assert!(rt; contains(job.as_slice(), part));
     Ok(())
 }
 
 #[test]
 fn expressions_of_64_words(rt: HostRuntime) -> Result<(), Fail> {
-    let alloc = rt.alloc();
-    let most = with_expression(alloc, b"a", b" a", 63)?;
-    assert!(rt; contains(built(alloc, most.as_slice())?.as_slice(), b"\nstates 66\n"));
-    let more = with_expression(alloc, b"a", b" a", 64)?;
-    assert!(rt; fault_of(alloc, more.as_slice()) == refused(5, Kind::ExprFull));
-    let unknown = with_expression(alloc, b"d", b" |", 64)?;
-    assert!(rt; fault_of(alloc, unknown.as_slice()) == refused(5, Kind::ExprFull));
+    for case in &BUILT {
+        assert_built(&rt, rt.alloc(), case)?;
+    }
+    Ok(())
+}
+
+/// A line of the document, what stands in its place, the line that is wrong then, and why.
+type Wrong = (usize, &'static [u8], u32, Kind);
+
+static WRONG: [Wrong; 31] = [
+    (1, b"zla 2\n", 1, Kind::ExprHeader),
+    (1, b"zla expr 2\n", 1, Kind::ExprHeader),
+    (1, b"zla\n", 1, Kind::ExprHeader),
+    (1, b"expr zla\n", 1, Kind::ExprHeader),
+    (1, b"# words\nzla expr\n", 1, Kind::ExprHeader),
+    (1, b"zla expr\nzla expr\n", 2, Kind::OutOfOrder),
+    (2, b"expr a\n", 2, Kind::OutOfOrder),
+    (2, b"processes left left\n", 2, Kind::RepeatedProcess),
+    (3, b"expr a\n", 3, Kind::OutOfOrder),
+    (3, b"letter a\n", 3, Kind::EmptyLoc),
+    (4, b"letter a right\n", 4, Kind::RepeatedName),
+    (4, b"", 4, Kind::NoSuchLetter),
+    (5, b"", 5, Kind::OutOfOrder),
+    (5, b"states 1\n", 5, Kind::OutOfOrder),
+    (5, b"expr\n", 5, Kind::WordCount),
+    (5, b"expr # all\n", 5, Kind::NoSuchLetter),
+    (5, b"expr d |\n", 5, Kind::NoSuchLetter),
+    (5, b"expr ( )\n", 5, Kind::BadExpr),
+    (5, b"expr a\rb\n", 5, Kind::BadByte),
+    (5, b"expr a\nexpr a\n", 6, Kind::OutOfOrder),
+    (5, b"expr a\nletter c left\n", 6, Kind::OutOfOrder),
+    (5, b"expr a\nstart 0\n", 6, Kind::OutOfOrder),
+    (5, b"expr a\nrow 0 a 0\n", 6, Kind::OutOfOrder),
+    (6, b"script left b\n", 6, Kind::NotOfProcess),
+    (6, b"script left a*0\n", 6, Kind::BadRepeat),
+    (6, b"script left a*65536\n", 7, Kind::ScriptsFull),
+    (6, b"script middle a\n", 6, Kind::NoSuchProcess),
+    (8, b"", 8, Kind::NoEnd),
+    (8, b"end 1\n", 8, Kind::WordCount),
+    (8, b"end\nexpr a\n", 9, Kind::Trailing),
+    (8, b"end", 8, Kind::Cut),
+];
+
+fn assert_wrong(rt: &impl Abort, alloc: Global, case: &Wrong) -> Result<(), Fail> {
+    let (line, text, at, kind) = *case;
+    let document = with_line(alloc, line, text)?;
+    assert!(rt;
+        fault_of(alloc, document.as_slice()) == refused(at, kind),
+        "{line} {kind:?}"
+    );
     Ok(())
 }
 
 #[test]
 fn one_document_per_kind(rt: HostRuntime) -> Result<(), Fail> {
-    let alloc = rt.alloc();
-    for (line, text, at, kind) in [
-        (1, b"zla 2\n".as_slice(), 1, Kind::ExprHeader),
-        (1, b"zla expr 2\n".as_slice(), 1, Kind::ExprHeader),
-        (1, b"zla\n".as_slice(), 1, Kind::ExprHeader),
-        (1, b"expr zla\n".as_slice(), 1, Kind::ExprHeader),
-        (1, b"# words\nzla expr\n".as_slice(), 1, Kind::ExprHeader),
-        (1, b"zla expr\nzla expr\n".as_slice(), 2, Kind::OutOfOrder),
-        (2, b"expr a\n".as_slice(), 2, Kind::OutOfOrder),
-        (
-            2,
-            b"processes left left\n".as_slice(),
-            2,
-            Kind::RepeatedProcess,
-        ),
-        (3, b"expr a\n".as_slice(), 3, Kind::OutOfOrder),
-        (3, b"letter a\n".as_slice(), 3, Kind::EmptyLoc),
-        (4, b"letter a right\n".as_slice(), 4, Kind::RepeatedName),
-        (4, b"".as_slice(), 4, Kind::NoSuchLetter),
-        (5, b"".as_slice(), 5, Kind::OutOfOrder),
-        (5, b"states 1\n".as_slice(), 5, Kind::OutOfOrder),
-        (5, b"expr\n".as_slice(), 5, Kind::WordCount),
-        (5, b"expr # all\n".as_slice(), 5, Kind::NoSuchLetter),
-        (5, b"expr d |\n".as_slice(), 5, Kind::NoSuchLetter),
-        (5, b"expr ( )\n".as_slice(), 5, Kind::BadExpr),
-        (5, b"expr a\rb\n".as_slice(), 5, Kind::BadByte),
-        (5, b"expr a\nexpr a\n".as_slice(), 6, Kind::OutOfOrder),
-        (
-            5,
-            b"expr a\nletter c left\n".as_slice(),
-            6,
-            Kind::OutOfOrder,
-        ),
-        (5, b"expr a\nstart 0\n".as_slice(), 6, Kind::OutOfOrder),
-        (5, b"expr a\nrow 0 a 0\n".as_slice(), 6, Kind::OutOfOrder),
-        (6, b"script left b\n".as_slice(), 6, Kind::NotOfProcess),
-        (6, b"script left a*0\n".as_slice(), 6, Kind::BadRepeat),
-        (6, b"script left a*65536\n".as_slice(), 7, Kind::ScriptsFull),
-        (6, b"script middle a\n".as_slice(), 6, Kind::NoSuchProcess),
-        (8, b"".as_slice(), 8, Kind::NoEnd),
-        (8, b"end 1\n".as_slice(), 8, Kind::WordCount),
-        (8, b"end\nexpr a\n".as_slice(), 9, Kind::Trailing),
-        (8, b"end".as_slice(), 8, Kind::Cut),
-    ] {
-        let document = with_line(alloc, line, text)?;
-        assert!(rt;
-            fault_of(alloc, document.as_slice()) == refused(at, kind),
-            "{line} {kind:?}"
-        );
+    for case in &WRONG {
+        assert_wrong(&rt, rt.alloc(), case)?;
     }
     Ok(())
 }

@@ -1,3 +1,6 @@
+//! Frozen texts, and what they are thawed to.
+
+use samples::{A, C};
 use std::alloc::Global;
 use std::process::Abort;
 use std::test::Fail;
@@ -40,10 +43,13 @@ fn frozen(rt: &impl Abort, alloc: Global, text: &str, k: u32) -> Result<Vec<u8>,
     Ok(freeze(alloc, &job, &closed, k)?)
 }
 
+/// A job, a cut, and the frozen text.
+static FREEZINGS: [(&str, u32, &str); 2] = [(JOB, 2, FROZEN), (STUCK, 9, STUCK_FROZEN)];
+
 #[test]
 fn jobs_are_frozen(rt: HostRuntime) -> Result<(), Fail> {
-    for (job, k, text) in [(JOB, 2, FROZEN), (STUCK, 9, STUCK_FROZEN)] {
-        let own = frozen(&rt, rt.alloc(), job, k)?;
+    for (job, k, text) in &FREEZINGS {
+        let own = frozen(&rt, rt.alloc(), job, *k)?;
         assert!(rt; own.as_slice() == text.as_bytes(), "{k}");
     }
     Ok(())
@@ -79,31 +85,32 @@ fn rest_in(alloc: Global, text: &str) -> Result<Vec<Word>, Fail> {
     Ok(words)
 }
 
+/// A frozen text, its job, and the state from which that goes on.
+static THAWINGS: [(&str, &str, u8); 2] = [(FROZEN, JOB, 1), (STUCK_FROZEN, STUCK, 0)];
+
 #[test]
 fn frozen_jobs_are_thawed(rt: HostRuntime) -> Result<(), Fail> {
-    for (text, job, start) in [(FROZEN, JOB, 1), (STUCK_FROZEN, STUCK, 0)] {
+    for (text, job, start) in &THAWINGS {
         let (printed, starts_at) = job_in(&rt, rt.alloc(), text)?;
         assert!(rt; printed.as_slice() == job.as_bytes(), "{text}");
-        assert_eq!(rt; starts_at, start, "{text}");
+        assert_eq!(rt; starts_at, *start, "{text}");
     }
     Ok(())
 }
 
-/// The letters `a` and `c` by their numbers.
-const A: Letter = Letter(0);
-
-const C: Letter = Letter(2);
+/// A frozen text, and what is left of both scripts.
+static RESTS: [(&str, &[Letter], &[Letter]); 2] = [
+    (FROZEN, &[C, A], &[C]),
+    (STUCK_FROZEN, &[C, A], &[]),
+];
 
 #[test]
 fn rests_of_scripts_are_thawed(rt: HostRuntime) -> Result<(), Fail> {
-    for (text, first, second) in [
-        (FROZEN, [C, A].as_slice(), [C].as_slice()),
-        (STUCK_FROZEN, [C, A].as_slice(), [].as_slice()),
-    ] {
+    for (text, first, second) in &RESTS {
         let rest = rest_in(rt.alloc(), text)?;
         assert_eq!(rt; rest.len(), 2, "{text}");
-        assert!(rt; rest[0].letters() == first, "{text}");
-        assert!(rt; rest[1].letters() == second, "{text}");
+        assert!(rt; rest[0].letters() == *first, "{text}");
+        assert!(rt; rest[1].letters() == *second, "{text}");
     }
     Ok(())
 }
@@ -116,57 +123,60 @@ fn refusal(alloc: Global, more: &str) -> Option<TextFault> {
     }
 }
 
+/// What follows the job's text, the line that is wrong, and why.
+static REFUSALS: [(&str, u32, Kind); 14] = [
+    ("", 18, Kind::NoEnd),
+    ("\n", 19, Kind::NoEnd),
+    ("cut 2", 18, Kind::Cut),
+    ("cut 2\r\n", 18, Kind::BadByte),
+    ("\ncut\n", 19, Kind::WordCount),
+    ("cut 2 2\n", 18, Kind::WordCount),
+    ("cut 02\n", 18, Kind::BadNumber),
+    (
+        "cut 5\nat 0 1 a.0 - view 1\nat 1 1 - b.0 view 0\nend\n",
+        18,
+        Kind::NoSuchCut,
+    ),
+    (
+        "cut 3\nat 0 1 a.0 - view 1\nat 1 1 - b.0 view 0\nend\n",
+        19,
+        Kind::NotOwn,
+    ),
+    (
+        "cut  2\nat 0 1 a.0 - view 1\nat 1 1 - b.0 view 0\nend\n",
+        18,
+        Kind::NotOwn,
+    ),
+    (
+        "cut 2\nat 0 1 a.0 - view 1\nat 1 1 - b.0 view 1\nend\n",
+        20,
+        Kind::NotOwn,
+    ),
+    (
+        "cut 2\nat 0 1 a.0 - view 1\nat 1 1 - b.0 view 0\n",
+        21,
+        Kind::NotOwn,
+    ),
+    (
+        "cut 2\nat 0 1 a.0 - view 1\nat 1 1 - b.0 view 0\nend",
+        21,
+        Kind::NotOwn,
+    ),
+    (
+        "cut 2\nat 0 1 a.0 - view 1\nat 1 1 - b.0 view 0\nend\n\n",
+        22,
+        Kind::NotOwn,
+    ),
+];
+
 #[test]
 fn other_texts_are_refused_at_a_line(rt: HostRuntime) {
-    for (more, line, kind) in [
-        ("", 18, Kind::NoEnd),
-        ("\n", 19, Kind::NoEnd),
-        ("cut 2", 18, Kind::Cut),
-        ("cut 2\r\n", 18, Kind::BadByte),
-        ("\ncut\n", 19, Kind::WordCount),
-        ("cut 2 2\n", 18, Kind::WordCount),
-        ("cut 02\n", 18, Kind::BadNumber),
-        (
-            "cut 5\nat 0 1 a.0 - view 1\nat 1 1 - b.0 view 0\nend\n",
-            18,
-            Kind::NoSuchCut,
-        ),
-        (
-            "cut 3\nat 0 1 a.0 - view 1\nat 1 1 - b.0 view 0\nend\n",
-            19,
-            Kind::NotOwn,
-        ),
-        (
-            "cut  2\nat 0 1 a.0 - view 1\nat 1 1 - b.0 view 0\nend\n",
-            18,
-            Kind::NotOwn,
-        ),
-        (
-            "cut 2\nat 0 1 a.0 - view 1\nat 1 1 - b.0 view 1\nend\n",
-            20,
-            Kind::NotOwn,
-        ),
-        (
-            "cut 2\nat 0 1 a.0 - view 1\nat 1 1 - b.0 view 0\n",
-            21,
-            Kind::NotOwn,
-        ),
-        (
-            "cut 2\nat 0 1 a.0 - view 1\nat 1 1 - b.0 view 0\nend",
-            21,
-            Kind::NotOwn,
-        ),
-        (
-            "cut 2\nat 0 1 a.0 - view 1\nat 1 1 - b.0 view 0\nend\n\n",
-            22,
-            Kind::NotOwn,
-        ),
-    ] {
-        assert_eq!(rt;
-            refusal(rt.alloc(), more),
-            Some(TextFault { line, kind }),
-            "{more}"
-        );
+    for (more, line, kind) in &REFUSALS {
+        let fault = TextFault {
+            line: *line,
+            kind: *kind,
+        };
+        assert_eq!(rt; refusal(rt.alloc(), more), Some(fault), "{more}");
     }
 }
 

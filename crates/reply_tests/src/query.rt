@@ -1,3 +1,5 @@
+//! Replies to what is asked of a text.
+
 use std::alloc::Global;
 use std::process::Abort;
 use std::test::Fail;
@@ -52,7 +54,7 @@ const NOT_CLOSED: &str = "not closed\nleft a b\nright b a\n";
 /// What is asked, of which text, the status, and what is written.
 type Case = (Query, &'static str, u8, &'static str);
 
-const CASES: [Case; 9] = [
+static CASES: [Case; 9] = [
     (Query::Build, ALL_WORDS, 0, ALL_WORDS_BUILT),
     (Query::Build, NO_FORM, 4, "refused line 5: bad expression\n"),
     // whether its language is closed isn't asked
@@ -75,14 +77,20 @@ const CASES: [Case; 9] = [
     (Query::Freeze { cut: 0 }, OPEN, 5, NOT_CLOSED),
 ];
 
+fn assert_reply(rt: &impl Abort, alloc: Global, case: &Case) -> Result<(), Fail> {
+    let (query, text, status, written) = *case;
+    let bytes = text.as_bytes();
+    assert!(rt; bytes.len() < 4294967295);
+    let said = reply(alloc, query, bytes)?;
+    assert_eq!(rt; said.status, status);
+    assert_eq!(rt; said.text.as_slice(), written.as_bytes());
+    Ok(())
+}
+
 #[test]
 fn replies(rt: HostRuntime) -> Result<(), Fail> {
-    for (query, text, status, written) in CASES {
-        let bytes = text.as_bytes();
-        assert!(rt; bytes.len() < 4294967295);
-        let said = reply(rt.alloc(), query, bytes)?;
-        assert_eq!(rt; said.status, status);
-        assert_eq!(rt; said.text.as_slice(), written.as_bytes());
+    for case in &CASES {
+        assert_reply(&rt, rt.alloc(), case)?;
     }
     Ok(())
 }
@@ -95,19 +103,28 @@ fn judged(rt: &impl Abort, alloc: Global, text: &str) -> Result<Judged, Fail> {
     Ok(judge(alloc, &job)?)
 }
 
+fn assert_closed(rt: &impl Abort, alloc: Global, text: &str, states: usize) -> Result<(), Fail> {
+    match judged(rt, alloc, text)? {
+        Judged::Closed(closed) => assert_eq!(rt; closed.dfa().states(), states),
+        Judged::Open(_) => panic!(rt; "open"),
+    }
+    Ok(())
+}
+
+fn assert_open(rt: &impl Abort, alloc: Global, text: &str, said: &str) -> Result<(), Fail> {
+    match judged(rt, alloc, text)? {
+        Judged::Open(open) => {
+            assert_eq!(rt; open.status, 5);
+            assert_eq!(rt; open.text.as_slice(), said.as_bytes());
+        }
+        Judged::Closed(_) => panic!(rt; "closed"),
+    }
+    Ok(())
+}
+
 #[test]
 fn languages_are_judged(rt: HostRuntime) -> Result<(), Fail> {
     // the words with evenly many `a`
-    match judged(&rt, rt.alloc(), TWO)? {
-        Judged::Closed(closed) => assert_eq!(rt; closed.dfa().states(), 2),
-        Judged::Open(_) => panic!(&rt; "open"),
-    }
-    match judged(&rt, rt.alloc(), OPEN)? {
-        Judged::Open(said) => {
-            assert_eq!(rt; said.status, 5);
-            assert_eq!(rt; said.text.as_slice(), NOT_CLOSED.as_bytes());
-        }
-        Judged::Closed(_) => panic!(&rt; "closed"),
-    }
-    Ok(())
+    assert_closed(&rt, rt.alloc(), TWO, 2)?;
+    assert_open(&rt, rt.alloc(), OPEN, NOT_CLOSED)
 }

@@ -1,37 +1,18 @@
+//! Texts of answers, of languages, of refusals and of local states.
+
 ghost use Rattle.std.specs.Prelude.{◌≡◌, ◌↔◌, false, IsTrue, is_some};
 
+use samples::{A, B, C, RING, TWO_PROCESSES, alphabet_of, scripts_of, to_and_fro, word_of};
 use std::alloc::Global;
 use std::process::Abort;
 use std::test::Fail;
-use za_alpha::{Alphabet, Letter, LetterRow, OutOfMemory, Word};
-use za_dfa::{Closed, Dfa};
+use za_alpha::{Alphabet, Letter, OutOfMemory};
+use za_dfa::Closed;
 use za_min::Hope;
-use za_report::*;
-use za_script::{Answer, Scripts, Woven, weave};
+use za_report::{answer_text, check_text, locals_text, open_text, refused_text};
+use za_script::{Answer, Woven, weave};
 use za_table::solo;
 use za_text::{Kind, Names, TextFault};
-
-/// An alphabet of these letters with their processes.
-fn alphabet_of(alloc: Global, n: usize, letters: &[(&str, &[u32])]) -> Result<Alphabet, Fail> {
-    let mut rows = Vec::new(alloc);
-    for (name, procs) in letters {
-        rows.push(LetterRow {
-            name: Vec::from_slice(alloc, name.as_bytes())?,
-            procs: Vec::from_slice(alloc, procs)?,
-        })?;
-    }
-    Ok(Alphabet::new(alloc, n, rows)?)
-}
-
-/// A letter for each of two processes, and one that they share.
-fn two(alloc: Global) -> Result<Alphabet, Fail> {
-    alphabet_of(alloc, 2, &[("a", &[0]), ("b", &[1]), ("c", &[0, 1])])
-}
-
-/// Three processes, of which each two share a letter.
-fn ring(alloc: Global) -> Result<Alphabet, Fail> {
-    alphabet_of(alloc, 3, &[("x", &[0, 1]), ("y", &[1, 2]), ("z", &[0, 2])])
-}
 
 /// Stuck where scripts are left, else this answer.
 fn answer_by(woven: &Woven, accepts: bool) -> Answer
@@ -57,35 +38,18 @@ fn hope_with(answer: Answer, hope: Hope) -> Option<Hope>
     }
 }
 
-/// Scripts of these letters, each with its process.
-fn scripts_of(
-    rt: &impl Abort,
-    alloc: Global,
-    alphabet: &Alphabet,
-    letters: &[(usize, u8)],
-) -> Result<Scripts, Fail> {
-    let mut scripts = Scripts::empty(alloc, alphabet.processes())?;
-    for (p, a) in letters {
-        assert!(rt; *p < alphabet.processes() && *p < scripts.processes());
-        assert!(rt; (*a as usize) < alphabet.letters());
-        scripts.add(alphabet, *p, Letter(*a))?;
-    }
-    Ok(scripts)
-}
+/// Letters, each with its process, whether the woven word is accepted, the hope of scripts that are stuck, the rows of the
+/// cache, and the text of the answer.
+type Case = (&'static [(usize, Letter)], bool, Hope, u8, &'static str);
 
-/// The text of the answer to scripts, where the woven word is accepted, or isn't, and of this hope where
-/// they are stuck.
 fn text_for(
     rt: &impl Abort,
     alloc: Global,
     alphabet: &Alphabet,
-    letters: &[(usize, u8)],
-    accepts: bool,
-    hope: Hope,
-    cache: u8,
+    case: &Case,
 ) -> Result<Vec<u8>, Fail> {
-    let scripts = scripts_of(rt, alloc, alphabet, letters)?;
-    assert!(rt; scripts.fits(alphabet));
+    let (letters, accepts, hope, cache, _) = *case;
+    let scripts = scripts_of(alloc, alphabet, letters)?;
     let woven = weave(alloc, alphabet, &scripts)?;
     let answer = answer_by(&woven, accepts);
     let hope = hope_with(answer, hope);
@@ -96,117 +60,149 @@ fn text_for(
     )?)
 }
 
-#[test]
-fn texts_of_answers(rt: HostRuntime) -> Result<(), Fail> {
-    let alloc = rt.alloc();
-    let all: &[(usize, u8)] = &[(0, 0), (0, 2), (0, 0), (1, 1), (1, 2)];
-    let few: &[(usize, u8)] = &[(0, 2), (0, 0), (1, 1)];
-    for (letters, accepts, hope, cache, wanted) in [
-        (
-            all,
-            true,
-            Hope::Dead,
-            0u8,
-            "accept\nfired 4\nbound labels 27 records 3\n",
-        ),
-        (
-            all,
-            false,
-            Hope::Dead,
-            4,
-            "reject\nfired 4\nbound labels 27 records 15\n",
-        ),
-        (
-            few,
-            true,
-            Hope::Alive,
-            0,
-            "stuck\nfired 1\nbound labels 27 records 3\nprocess 0 fired 0 waits c\n\
-            process 1 fired 1 ended\ntrace b\nalive\n",
-        ),
-        (
-            few,
-            true,
-            Hope::Dead,
-            0,
-            "stuck\nfired 1\nbound labels 27 records 3\nprocess 0 fired 0 waits c\n\
-            process 1 fired 1 ended\ntrace b\ndead\n",
-        ),
-    ] {
-        let text = text_for(&rt, alloc, &two(alloc)?, letters, accepts, hope, cache)?;
-        assert!(rt; text.as_slice() == wanted.as_bytes(), "{wanted}");
-    }
-    let circle: &[(usize, u8)] = &[(0, 0), (0, 2), (1, 1), (1, 0), (2, 2), (2, 1)];
-    let text = text_for(&rt, alloc, &ring(alloc)?, circle, true, Hope::Alive, 0)?;
-    let wanted = "stuck\nfired 0\nbound labels 84 records 4\nprocess 0 fired 0 waits x\n\
-        process 1 fired 0 waits y\nprocess 2 fired 0 waits z\ntrace\nalive\n";
-    assert!(rt; text.as_slice() == wanted.as_bytes());
+/// The scripts `a c a` and `b c`.
+static ALL: [(usize, Letter); 5] = [(0, A), (0, C), (0, A), (1, B), (1, C)];
+
+static OF_TWO: [Case; 4] = [
+    (
+        &[(0, A), (0, C), (0, A), (1, B), (1, C)],
+        true,
+        Hope::Dead,
+        0,
+        "accept\nfired 4\nbound labels 27 records 3\n",
+    ),
+    (
+        &[(0, A), (0, C), (0, A), (1, B), (1, C)],
+        false,
+        Hope::Dead,
+        4,
+        "reject\nfired 4\nbound labels 27 records 15\n",
+    ),
+    (
+        &[(0, C), (0, A), (1, B)],
+        true,
+        Hope::Alive,
+        0,
+        "stuck\nfired 1\nbound labels 27 records 3\nprocess 0 fired 0 waits c\n\
+        process 1 fired 1 ended\ntrace b\nalive\n",
+    ),
+    (
+        &[(0, C), (0, A), (1, B)],
+        true,
+        Hope::Dead,
+        0,
+        "stuck\nfired 1\nbound labels 27 records 3\nprocess 0 fired 0 waits c\n\
+        process 1 fired 1 ended\ntrace b\ndead\n",
+    ),
+];
+
+/// Each of three processes waits for its neighbour in a ring.
+static OF_RING: Case = (
+    &[(0, A), (0, C), (1, B), (1, A), (2, C), (2, B)],
+    true,
+    Hope::Alive,
+    0,
+    "stuck\nfired 0\nbound labels 84 records 4\nprocess 0 fired 0 waits x\n\
+    process 1 fired 0 waits y\nprocess 2 fired 0 waits z\ntrace\nalive\n",
+);
+
+fn assert_answer(
+    rt: &impl Abort,
+    alloc: Global,
+    alphabet: &Alphabet,
+    case: &Case,
+) -> Result<(), Fail> {
+    let text = text_for(rt, alloc, alphabet, case)?;
+    assert_eq!(rt; text.as_slice(), case.4.as_bytes());
     Ok(())
 }
 
-fn word(alloc: Global, letters: &[u8]) -> Result<Word, OutOfMemory> {
-    let mut word = Word::new(alloc);
-    for a in letters {
-        word.push(Letter(*a))?;
+#[test]
+fn texts_of_answers(rt: HostRuntime) -> Result<(), Fail> {
+    let two = alphabet_of(rt.alloc(), 2, &TWO_PROCESSES)?;
+    for case in &OF_TWO {
+        assert_answer(&rt, rt.alloc(), &two, case)?;
     }
-    Ok(word)
+    let ring = alphabet_of(rt.alloc(), 3, &RING)?;
+    assert_answer(&rt, rt.alloc(), &ring, &OF_RING)
 }
 
 #[test]
-fn texts_of_closed_and_open_languages(rt: HostRuntime) -> Result<(), Fail> {
-    let alloc = rt.alloc();
-    let alphabet = two(alloc)?;
-    let text = check_text(alloc, &alphabet, 8, 16)?;
+fn texts_of_closed_languages(rt: HostRuntime) -> Result<(), Fail> {
+    let alphabet = alphabet_of(rt.alloc(), 2, &TWO_PROCESSES)?;
+    let text = check_text(rt.alloc(), &alphabet, 8, 16)?;
     assert!(rt; text.as_slice() == b"closed\nstates 8\nbound labels 27 records 51\n".as_slice());
-    let left = word(alloc, &[2, 0, 1, 2])?;
-    let right = word(alloc, &[2, 1, 0, 2])?;
+    Ok(())
+}
+
+/// The text of an open language, which two words show.
+fn open_of(
+    rt: &impl Abort,
+    alloc: Global,
+    alphabet: &Alphabet,
+    left: &[u8],
+    right: &[u8],
+) -> Result<Vec<u8>, OutOfMemory> {
+    let left = word_of(alloc, left)?;
+    let right = word_of(alloc, right)?;
     assert!(rt; alphabet.has_word(&left) && alphabet.has_word(&right));
-    let text = open_text(alloc, &alphabet, &left, &right)?;
+    open_text(alloc, alphabet, &left, &right)
+}
+
+#[test]
+fn texts_of_open_languages(rt: HostRuntime) -> Result<(), Fail> {
+    let alphabet = alphabet_of(rt.alloc(), 2, &TWO_PROCESSES)?;
+    let text = open_of(&rt, rt.alloc(), &alphabet, &[2, 0, 1, 2], &[2, 1, 0, 2])?;
     assert!(rt; text.as_slice() == b"not closed\nleft c a b c\nright c b a c\n".as_slice());
     Ok(())
 }
 
+/// A fault, and the text of the refusal.
+static REFUSALS: [(TextFault, &str); 2] = [
+    (
+        TextFault {
+            line: 15,
+            kind: Kind::NotOfProcess,
+        },
+        "refused line 15: letter not of this process\n",
+    ),
+    (
+        TextFault {
+            line: 1048577,
+            kind: Kind::NoEnd,
+        },
+        "refused line 1048577: end is missing\n",
+    ),
+];
+
 #[test]
 fn texts_of_refusals(rt: HostRuntime) -> Result<(), Fail> {
-    for (line, kind, wanted) in [
-        (
-            15,
-            Kind::NotOfProcess,
-            "refused line 15: letter not of this process\n",
-        ),
-        (
-            1048577,
-            Kind::NoEnd,
-            "refused line 1048577: end is missing\n",
-        ),
-    ] {
-        let text = refused_text(rt.alloc(), &TextFault { line, kind })?;
+    for (fault, wanted) in &REFUSALS {
+        let text = refused_text(rt.alloc(), fault)?;
         assert!(rt; text.as_slice() == wanted.as_bytes(), "{wanted}");
     }
     Ok(())
 }
 
-/// Two states: `a` goes to and fro, `b` and `c` stay.
-fn to_and_fro(rt: &impl Abort, alloc: Global) -> Result<Closed, Fail> {
-    let alphabet = two(alloc)?;
-    let accepting = Vec::from_slice(alloc, &[true, false])?;
-    let targets = Vec::from_slice(alloc, &[1u8, 0, 0, 0, 1, 1])?;
-    assert!(rt; Dfa::is_table(&alphabet, 0, &accepting, &targets));
-    match Closed::new(Dfa::of_table(alphabet, 0, accepting, targets)) {
-        Ok(closed) => Ok(closed),
-        Err(_) => panic!(rt; "a diamond is broken"),
-    }
+/// The local states after the run of scripts.
+fn locals_of(
+    rt: &impl Abort,
+    alloc: Global,
+    closed: &Closed,
+    letters: &[(usize, Letter)],
+) -> Result<Vec<u8>, Fail> {
+    let scripts = scripts_of(alloc, closed.dfa().alphabet(), letters)?;
+    assert!(rt; scripts.fits(closed.dfa().alphabet()));
+    let ended = solo(alloc, closed.copy()?, scripts, 1)?;
+    let text = locals_text(alloc, closed, &ended);
+    drop(ended);
+    Ok(text?)
 }
 
 #[test]
 fn texts_of_local_states(rt: HostRuntime) -> Result<(), Fail> {
-    let alloc = rt.alloc();
-    let closed = to_and_fro(&rt, alloc)?;
-    let letters = [(0, 0), (0, 2), (0, 0), (1, 1), (1, 2)];
-    let scripts = scripts_of(&rt, alloc, closed.dfa().alphabet(), &letters)?;
-    assert!(rt; scripts.fits(closed.dfa().alphabet()));
-    let ended = solo(alloc, closed.copy()?, scripts, 1)?;
-    let text = locals_text(alloc, &closed, &ended)?;
+    let closed = to_and_fro(rt.alloc())?;
+    let text = locals_of(&rt, rt.alloc(), &closed, &ALL)?;
     assert!(rt; text.as_slice() == b"p0 a.0 c.0 view 0\np1 c.0 c.0 view 1\n".as_slice());
     Ok(())
 }

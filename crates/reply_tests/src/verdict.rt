@@ -1,21 +1,20 @@
+//! Texts of verdicts.
+
+use samples::{Named, alphabet_of};
 use std::test::Fail;
-use za_alpha::{Alphabet, Letter, LetterRow};
+use za_alpha::Letter;
 use za_audit::Audit;
 use za_min::Hope;
-use za_report::*;
+use za_report::audit_text;
 use za_script::Answer;
+
+/// Two letters of one process.
+static LETTERS: [Named; 2] = [(b"a", &[0]), (b"b", &[0])];
 
 #[test]
 fn verdicts_have_texts(rt: HostRuntime) -> Result<(), Fail> {
     let alloc = rt.alloc();
-    let mut rows = Vec::new(alloc);
-    for name in [b"a".as_slice(), b"b".as_slice()] {
-        rows.push(LetterRow {
-            name: Vec::from_slice(alloc, name)?,
-            procs: Vec::from_slice(alloc, &[0])?,
-        })?;
-    }
-    let alphabet = Alphabet::new(alloc, 1, rows)?;
+    let alphabet = alphabet_of(alloc, 1, &LETTERS)?;
     assert!(rt; alphabet.letters() == 2);
     let defined = Answer::Accept;
     for (audit, text) in [

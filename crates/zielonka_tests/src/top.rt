@@ -246,7 +246,7 @@ pub(crate) struct Said {
 }
 
 /// The outcome of a call that wrote to this sink. The run that it shows is let go here, and nowhere else.
-fn said(outcome: Outcome, sink: MemSink) -> Said {
+fn let_go(outcome: Outcome, sink: MemSink) -> Said {
     let (status, ran) = (outcome.status, shown(&outcome));
     drop(outcome);
     Said { status, ran, sink }
@@ -277,7 +277,7 @@ pub(crate) fn run_top<R: Threads + Wait + Sync, G: Gate>(
     let words = strings(alloc, texts)?;
     let (mut source, mut sink) = streams(alloc, document, room)?;
     let outcome = top(rt, alloc, words.as_slice(), &mut source, &mut sink, gate);
-    Ok(said(outcome, sink))
+    Ok(let_go(outcome, sink))
 }
 
 /// The same by `plain` alone.
@@ -290,7 +290,7 @@ pub(crate) fn said_by_plain(
     let words = strings(alloc, texts)?;
     let (mut source, mut sink) = streams(alloc, Vec::from_slice(alloc, document)?, room)?;
     let outcome = plain(alloc, words.as_slice(), &mut source, &mut sink);
-    Ok(said(outcome, sink))
+    Ok(let_go(outcome, sink))
 }
 
 /// The same by `threaded` alone.
@@ -311,7 +311,7 @@ pub(crate) fn said_by_threaded<R: Threads + Wait + Sync>(
         &mut sink,
         &OpenGate,
     );
-    Ok(said(outcome, sink))
+    Ok(let_go(outcome, sink))
 }
 
 pub(crate) fn assert_said(rt: &impl Abort, run: &Said, status: u8, text: &str) {
@@ -456,7 +456,7 @@ fn generated(alloc: Global) -> Result<Said, Fail> {
     let mut source = MemSource::new(Vec::new(alloc), 1, vec![in alloc; 1]?);
     let mut sink = MemSink::new(alloc, 65536, 4096, Vec::new(alloc))?;
     let outcome = plain(alloc, words.as_slice(), &mut source, &mut sink);
-    Ok(said(outcome, sink))
+    Ok(let_go(outcome, sink))
 }
 
 #[test]
