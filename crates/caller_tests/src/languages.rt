@@ -6,8 +6,9 @@ use crate::common::{two_processes, without_b};
 use callers::automata::accepts_trace;
 use callers::closure::{Pair, told_apart};
 use callers::distributed::can_be_distributed;
+use callers::hopes::can_still_be_accepted;
 use callers::minimal::{difference, states_needed};
-use samples::word_of;
+use samples::{Named, alphabet_of, dfa_of, word_of};
 use std::alloc::Global;
 use std::process::Abort;
 use std::test::Fail;
@@ -109,5 +110,49 @@ fn words_that_a_language_tells_apart(rt: HostRuntime) -> Result<(), Fail> {
     let pair = told_apart(rt.alloc(), &dfa)?.ok_or("closed")?;
     assert_pair(&rt, &pair);
     assert!(rt; !can_be_distributed(rt.alloc(), &dfa)?);
+    Ok(())
+}
+
+/// Two letters of one process.
+static LETTERS: [Named; 2] = [(b"a", &[0]), (b"b", &[0])];
+
+/// An odd number of `a` and no `b` is right.
+fn odd_numbers_of_a(alloc: Global) -> Result<Dfa, Fail> {
+    let alphabet = alphabet_of(alloc, 1, &LETTERS)?;
+    dfa_of(
+        alloc,
+        alphabet,
+        0,
+        &[false, true, false],
+        &[1, 2, 0, 2, 2, 2],
+    )
+}
+
+fn has_hope(
+    rt: &impl Abort,
+    alloc: Global,
+    dfa: &Dfa,
+    letters: &[u8],
+) -> Result<bool, OutOfMemory> {
+    let w = word_of(alloc, letters)?;
+    assert!(rt; dfa.alphabet().has_word(&w));
+    can_still_be_accepted(alloc, dfa, &w)
+}
+
+/// A word, and whether it is the beginning of one that is accepted.
+static HOPES: [(&[u8], bool); 5] = [
+    (&[], true),
+    (&[0], true),
+    (&[0, 0], true),
+    (&[0, 1], false),
+    (&[1, 0], false),
+];
+
+#[test]
+fn words_that_can_still_be_accepted(rt: HostRuntime) -> Result<(), Fail> {
+    let dfa = odd_numbers_of_a(rt.alloc())?;
+    for (letters, can) in &HOPES {
+        assert_eq!(rt; has_hope(&rt, rt.alloc(), &dfa, letters)?, *can);
+    }
     Ok(())
 }

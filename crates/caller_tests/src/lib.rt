@@ -8,6 +8,8 @@ mod events;
 #[cfg(test)]
 mod languages;
 #[cfg(test)]
+mod readings;
+#[cfg(test)]
 mod runs;
 #[cfg(test)]
 mod texts;
